@@ -1,0 +1,13 @@
+pub mod Causes
+pub mod Disk
+pub mod Steps
+pub mod Ranges
+pub mod Streams
+pub mod Faults
+pub mod MemoryStreams
+pub mod Past
+pub mod Picks
+pub mod MemoryDisk
+pub mod Silent
+pub mod FileDisk
+pub mod Laws

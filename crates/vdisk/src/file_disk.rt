@@ -1,0 +1,206 @@
+// A disk over a file.
+ghost use Rattle.std.specs.Prelude.{◌≡◌, ◌<◌, ◌≤◌, ◌+◌, ◌-◌, ◌^◌, ◌↔◌, ℕ, List, length, IsTrue, IsFalse, IsOk, IsErr, OnOk, OnErr};
+
+use crate::disk::{Disk, Failed};
+use std::fs::{File, OpenFile, OpenOptions};
+use std::os::unix::fs::FileExt;
+use std::rt::Files;
+
+/// A disk over a file of the system. It tells nothing of what it holds: that a file keeps its bytes is trusted.
+#[derive(Drop)]
+pub struct FileDisk {
+    file: Option<File>,
+    size: u64,
+    made: u64,
+    faults: u64,
+    ghost small: { size < 2 ^ 64 },
+    ghost timed: { made < 2 ^ 64 },
+    ghost counted: { faults < 2 ^ 64 },
+}
+
+impl FileDisk {
+    ghost use Rattle.vdisk.specs.Causes.{Rose};
+    ghost use Rattle.vdisk.specs.FileDisk.{file_state, IsUnopened};
+
+    /// Opens the file at this path, and makes an empty one where there is none and `create` says so. It never fails:
+    /// a file that could not be opened gives a disk of size 0 whose every call fails.
+    pub fn open<R: Files<File = File>>(rt: &R, path: &str, create: bool) -> Self
+        ensures moment { (file_state result).moment ≡ 0 }
+        ensures faults { (file_state result).faults ≡ 0 }
+        ensures unopened { IsUnopened result → length (file_state result).image ≡ 0 }
+    {
+        let opened = OpenOptions::new()
+            .read(true)
+            .write(true)
+            .create(create)
+            .open(rt, path);
+        match opened {
+            Ok(file) => FileDisk::over(file),
+            Err(_) => FileDisk::unopened(),
+        }
+    }
+
+    fn over(file: File) -> Self
+        ensures moment { result.made ≡ 0 }
+        ensures faults { result.faults ≡ 0 }
+        ensures unopened { IsUnopened result → result.size ≡ 0 }
+    {
+        let size = match file.metadata() {
+            Ok(about) => about.len(),
+            Err(_) => return FileDisk::unopened(),
+        };
+        FileDisk {
+            file: Some(file),
+            size,
+            made: 0,
+            faults: 0,
+        }
+    }
+
+    fn unopened() -> Self
+        ensures moment { result.made ≡ 0 }
+        ensures faults { result.faults ≡ 0 }
+        ensures size { result.size ≡ 0 }
+    {
+        FileDisk {
+            file: None,
+            size: 0,
+            made: 0,
+            faults: 0,
+        }
+    }
+
+    // Counts a fault where the call was not done.
+    fn answer(&mut self, done: bool) -> Result<(), Failed>
+        ensures size { self.new.size ≡ self.old.size }
+        ensures file { self.new.file ≡ self.old.file }
+        ensures made { self.new.made ≡ self.old.made }
+        ensures ok { IsOk result ↔ IsTrue done }
+        ensures later { self.old.faults ≤ self.new.faults }
+        ensures failed { OnErr result (Rose self.old.faults self.new.faults) }
+    {
+        if done {
+            return Ok(());
+        }
+        self.faults = self.faults.saturating_add(1);
+        Err(Failed)
+    }
+
+    // Lets time go on, and answers whether it could.
+    fn tick(&mut self) -> bool
+        ensures size { self.new.size ≡ self.old.size }
+        ensures file { self.new.file ≡ self.old.file }
+        ensures faults { self.new.faults ≡ self.old.faults }
+        ensures ticked { IsTrue result → self.new.made ≡ self.old.made + 1 }
+        ensures end { IsFalse result → (self.new.made ≡ self.old.made) × (self.old.made ≡ 2 ^ 64 - 1) }
+    {
+        if self.made == u64::MAX {
+            return false;
+        }
+        self.made += 1;
+        true
+    }
+}
+
+impl Disk for FileDisk {
+    ghost use Rattle.vdisk.specs.FileDisk.{file_state, IsUnopened};
+    ghost use Rattle.vdisk.specs.Causes.{HasCause};
+    ghost use Rattle.vdisk.specs.Disk.{ChangedWithin, GrownTo, Follows, Elapses, Untouched, RefusedAtTheEnd};
+
+    ghost state = { λ d. file_state d };
+
+    ghost is_same = { λ a b. Unit {0} };
+
+    ghost same_self = { λ d. tt };
+
+    ghost same_next = { λ a b c one two. tt };
+
+    fn size(&self) -> u64 {
+        self.size
+    }
+
+    fn moment(&self) -> u64 {
+        self.made
+    }
+
+    fn grow(&mut self, to: u64) -> Result<(), Failed>
+        requires { length (file_state self.old).image ≤ to }
+        ensures grown { OnOk result (length (file_state self.new).image ≡ to) }
+        ensures image { GrownTo to (file_state self.old).image (file_state self.new).image }
+        ensures crash { Follows (GrownTo to) (file_state self.old).may_leave (file_state self.new).may_leave }
+        ensures time { Elapses (file_state self.old) (file_state self.new) }
+        ensures end { RefusedAtTheEnd (file_state self.old) result }
+        ensures same { Unit {0} }
+        ensures cause { HasCause (file_state self.old).faults (file_state self.new).faults result }
+        ensures unopened { IsUnopened self.old → IsErr result }
+        ensures stays { IsUnopened self.new ↔ IsUnopened self.old }
+    {
+        let done = self.tick()
+            && match &self.file {
+                Some(file) => file.set_len(to).is_ok(),
+                None => false,
+            };
+        if done {
+            self.size = to;
+        }
+        self.answer(done)
+    }
+
+    fn read(&mut self, at: u64, out: &mut [u8]) -> Result<(), Failed>
+        requires { at + length out.old ≤ length (file_state self.old).image }
+        ensures bytes { Unit {0} }
+        ensures untouched { Untouched (file_state self.old) (file_state self.new) }
+        ensures end { RefusedAtTheEnd (file_state self.old) result }
+        ensures same { Unit {0} }
+        ensures cause { HasCause (file_state self.old).faults (file_state self.new).faults result }
+        ensures unopened { IsUnopened self.old → IsErr result }
+        ensures stays { IsUnopened self.new ↔ IsUnopened self.old }
+    {
+        let done = self.made < u64::MAX
+            && match &self.file {
+                Some(file) => file.read_exact_at(out, at).is_ok(),
+                None => false,
+            };
+        self.answer(done)
+    }
+
+    fn write(&mut self, at: u64, bytes: &[u8]) -> Result<(), Failed>
+        requires { at + length bytes.now ≤ length (file_state self.old).image }
+        ensures written { Unit {0} }
+        ensures image { ChangedWithin at (length bytes.now) (file_state self.old).image (file_state self.new).image }
+        ensures crash { Follows (ChangedWithin at (length bytes.now)) (file_state self.old).may_leave
+            (file_state self.new).may_leave }
+        ensures time { Elapses (file_state self.old) (file_state self.new) }
+        ensures end { RefusedAtTheEnd (file_state self.old) result }
+        ensures same { Unit {0} }
+        ensures cause { HasCause (file_state self.old).faults (file_state self.new).faults result }
+        ensures unopened { IsUnopened self.old → IsErr result }
+        ensures stays { IsUnopened self.new ↔ IsUnopened self.old }
+    {
+        let done = self.tick()
+            && match &self.file {
+                Some(file) => file.write_all_at(bytes, at).is_ok(),
+                None => false,
+            };
+        self.answer(done)
+    }
+
+    fn sync(&mut self) -> Result<(), Failed>
+        ensures durable { Unit {0} }
+        ensures image { (file_state self.new).image ≡ (file_state self.old).image }
+        ensures crash { (c : List ℕ) → (file_state self.new).may_leave c → (file_state self.old).may_leave c }
+        ensures time { Elapses (file_state self.old) (file_state self.new) }
+        ensures end { RefusedAtTheEnd (file_state self.old) result }
+        ensures same { Unit {0} }
+        ensures cause { HasCause (file_state self.old).faults (file_state self.new).faults result }
+        ensures unopened { IsUnopened self.old → IsErr result }
+        ensures stays { IsUnopened self.new ↔ IsUnopened self.old }
+    {
+        let done = self.tick()
+            && match &self.file {
+                Some(file) => file.sync_all().is_ok(),
+                None => false,
+            };
+        self.answer(done)
+    }
+}

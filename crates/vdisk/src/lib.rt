@@ -1,0 +1,31 @@
+//! The outside of a volume: a disk that may crash, a source of bytes, a sink for them and a clock, each of which may
+//! fail, with forms of them in memory that tell all that they hold.
+#![tactic(auto)]
+
+mod crash;
+mod disk;
+mod faults;
+mod file_disk;
+mod laws;
+mod memory;
+mod memory_disk;
+mod memory_streams;
+mod record;
+mod std_streams;
+mod streams;
+mod synced;
+#[cfg(test)]
+mod tests;
+mod writes;
+
+pub use disk::{Disk, Failed};
+pub use file_disk::FileDisk;
+pub use laws::{
+    a_call_adds_what_it_may_leave, a_write_may_tear_at_every_byte, time_goes_on, unnamed_bytes_stay,
+};
+pub use memory::Memory;
+pub use memory_disk::MemoryDisk;
+pub use memory_streams::{MemoryClock, MemorySink, MemorySource};
+pub use std_streams::{ReaderSource, SystemClock, WriterSink};
+pub use streams::{Clock, Sink, Source};
+pub use synced::write_synced;
