@@ -1,0 +1,11 @@
+pub mod InputLaws
+pub mod LineLaws
+pub mod PayloadLaws
+pub mod ItemLaws
+pub mod PutLaws
+pub mod SessionLaws
+pub mod RunLaws
+pub mod LoopLaws
+pub mod CommandLaws
+pub mod TopLaws
+pub mod OneOutput

@@ -1,0 +1,23 @@
+use Rattle.std.proofs.Common.{◌≡◌, rules, Err, ap}
+use Rattle.ddpsh.proofs.ItemLaws.{item_bare, item_paid, item_over}
+use Rattle.ddpsh.proofs.items.read_item.Goals as goal
+use Rattle.ddpsh.specs.declared.input.ScriptFault.TheVariants as fault
+
+pub returns-in-None-clause-item : goal.returns-in-None-clause-item
+returns-in-None-clause-item g c total s so =
+    let read = (rw c.if-not-some.false at c.in-Ok.ensures.line) total s so in
+    item_bare s _ _ _ _ total read c.clear.ensures.items (search rules)
+
+pub returns-in-Ok-read_payload-clause-item : goal.returns-in-Ok-read_payload-clause-item
+returns-in-Ok-read_payload-clause-item g c total s so =
+    let read = (rw c.if-not-some.false at c.in-Ok.ensures.line) total s so in
+    item_paid s _ _ _ _ _ _ total c.in-Some.count read (search rules) (c.in-Ok-read_payload.ensures.payload total _ read.left)
+
+pub returns-in-Err-read_payload-clause-over : goal.returns-in-Err-read_payload-clause-over
+returns-in-Err-read_payload-clause-over g c total s so over =
+    let read = (rw c.if-not-some.false at c.in-Ok.ensures.line) total s so in
+    let e : c.in-Err-read_payload.fault ≡ fault.TooLong = cc in
+    c.in-Err-read_payload.ensures.over total _ read.left (ap Err e)
+
+pub returns-then-not-some-clause-item : goal.returns-then-not-some-clause-item
+returns-then-not-some-clause-item g c total s so = item_over s _ _ _ _ total ((rw c.if-not-some.true at c.in-Ok.ensures.line) total s so)

@@ -1,0 +1,5 @@
+use Rattle.ddpsh.proofs.OneOutput.{item_same}
+use Rattle.ddpsh.proofs.laws.items_have_one_answer.Goals as goal
+
+pub returns : goal.returns
+returns c = item_same

@@ -1,0 +1,31 @@
+use Rattle.std.proofs.Common.{◌≡◌, ◌∙◌, rules, Err, ap, arith}
+use Rattle.ddpsh.proofs.LineLaws.{behind_over}
+use Rattle.ddpsh.proofs.lines.skip_line.Goals as goal
+use Rattle.ddpsh.specs.declared.input.ScriptFault.TheVariants as fault
+
+pub returns-in-Err-clause-over : goal.returns-in-Err-clause-over
+returns-in-Err-clause-over g c total s so over =
+    let here = c.pieces.invariant.so total s so in
+    let e : c.in-Err.fault ≡ fault.TooLong = cc in
+    c.in-Err.ensures.over total here.0 here.1 (ap Err e)
+
+pub returns-then-not-more-clause-left : goal.returns-then-not-more-clause-left
+returns-then-not-more-clause-left g c total s so =
+    let here = c.pieces.invariant.so total s so in
+    behind_over _ _ total s here.0 (c.in-Ok.ensures.left total here.0 here.1) here.2 (c.in-Ok.ensures.end total here.0 here.1 (search rules))
+
+pub returns-then-pass_ahead-clause-left : goal.returns-then-pass_ahead-clause-left
+returns-then-pass_ahead-clause-left g c total s so =
+    let here = c.pieces.invariant.so total s so in
+    let passed = c.if-pass_ahead.ensures.left _ total here.0 (c.in-Ok.ensures.left total here.0 here.1) in
+    rw here.2 passed
+
+pub pieces-preserved : goal.pieces-preserved
+pieces-preserved g c = record {
+  so = λ total s so.
+      let here = c.pieces.invariant.so total s so in
+      let passed = c.if-pass_ahead.ensures.left _ total here.0 (c.in-Ok.ensures.left total here.0 here.1) in
+      (passed.0, passed.1, here.2 ∙ passed.2);
+  grows = omega (arith, c.pass_ahead.ensures.grows, c.ready.ensures.taken);
+  later = omega (arith, c.ready.ensures.later);
+}

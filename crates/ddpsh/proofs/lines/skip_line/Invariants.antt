@@ -1,0 +1,14 @@
+use Rattle.std.proofs.Common.{◌≡◌, ◌≤◌, ◌-◌, ◌^◌, ℕ, List}
+use Rattle.ddpsh.specs.Input.{taken, IsLeft}
+use Rattle.ddpsh.specs.Script.{behind_line}
+use Rattle.ddpsh.proofs.lines.skip_line.Given as goal
+
+abbrev pub invariant-pieces : goal.invariant-pieces
+invariant-pieces g l = record {
+  so : (total : ℕ) (s : List ℕ) → IsLeft l.fn.input (g.S.Source.left l.fn.script) total s → (rest : List ℕ) × IsLeft l.input (g.S.Source.left l.script) total rest × (behind_line s ≡ behind_line rest);
+  grows : taken l.fn.input ≤ taken l.input;
+  later : g.S.Source.faults l.fn.script ≤ g.S.Source.faults l.script;
+}
+
+abbrev pub decreases-pieces : goal.decreases-pieces
+decreases-pieces g l = 2 ^ 40 - taken l.input

@@ -1,0 +1,33 @@
+use Rattle.std.proofs.Common.{◌≡◌, ◌≤◌, length, rules, Err, ap, arith}
+use Rattle.ddpsh.proofs.PayloadLaws.{read_on, filled_over, filled_whole, put_within}
+use Rattle.ddpsh.proofs.payload.read_whole.Goals as goal
+use Rattle.ddpsh.specs.declared.input.ScriptFault.TheVariants as fault
+
+pub returns-in-Err-clause-over : goal.returns-in-Err-clause-over
+returns-in-Err-clause-over g c total s so over =
+    let here = c.loop-done.invariant.so total s so in
+    let e : c.in-Err.fault ≡ fault.TooLong = cc in
+    c.in-Err.ensures.over total _ here.left (ap Err e)
+
+pub returns-in-Ok-eq0-clause-bytes : goal.returns-in-Ok-eq0-clause-bytes
+returns-in-Ok-eq0-clause-bytes g c total s so =
+    let here = c.loop-done.invariant.so total s so in
+    filled_over _ _ _ _ total s c.loop-done.out c.read.new.out _ c.loop-done.done c.in-Ok-eq0.field-0 c.loop-done.invariant.within (search rules) here (c.in-Ok-eq0.ensures.bytes total _ here.left)
+
+pub returns-clause-bytes : goal.returns-clause-bytes
+returns-clause-bytes g c total s so =
+    let here = c.loop-done.invariant.so total s so in
+    let whole : c.loop-done.done ≡ length c.loop-done.out = omega (arith, c.loop-done.invariant.within) in
+    filled_whole _ _ total s c.loop-done.out c.loop-done.done whole here
+
+pub loop-done-preserved : goal.loop-done-preserved
+loop-done-preserved g c =
+    let few : c.in-Ok.count ≤ length c.read.new.out = omega (arith, c.in-Ok.ensures.bound) in
+    record {
+      within = put_within c.loop-done.out c.read.new.out _ c.loop-done.done c.in-Ok.count c.loop-done.invariant.within few;
+      so = λ total s so.
+          let here = c.loop-done.invariant.so total s so in
+          read_on _ _ _ _ total s c.loop-done.out c.read.new.out _ c.loop-done.done c.in-Ok.count c.loop-done.invariant.within few here (c.in-Ok.ensures.bytes total _ here.left);
+      grows = omega (arith, c.read.ensures.taken);
+      later = omega (arith, c.read.ensures.later);
+    }

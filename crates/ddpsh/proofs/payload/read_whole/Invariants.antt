@@ -1,0 +1,15 @@
+use Rattle.std.proofs.Common.{◌≤◌, ◌-◌, ℕ, List, length}
+use Rattle.ddpsh.specs.Input.{taken, IsLeft}
+use Rattle.ddpsh.specs.Reading.{IsReadUpTo}
+use Rattle.ddpsh.proofs.payload.read_whole.Given as goal
+
+abbrev pub invariant-loop-done : goal.invariant-loop-done
+invariant-loop-done g l = record {
+  within : l.done ≤ length l.out;
+  so : (total : ℕ) (s : List ℕ) → IsLeft l.fn.input (g.S.Source.left l.fn.script) total s → IsReadUpTo l.done l.out s l.input (g.S.Source.left l.script) total;
+  grows : taken l.fn.input ≤ taken l.input;
+  later : g.S.Source.faults l.fn.script ≤ g.S.Source.faults l.script;
+}
+
+abbrev pub decreases-loop-done : goal.decreases-loop-done
+decreases-loop-done g l = length l.out - l.done

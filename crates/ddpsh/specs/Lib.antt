@@ -1,0 +1,13 @@
+pub mod Input
+pub mod Script
+pub mod Reading
+pub mod States
+pub mod Answers
+pub mod Runs
+pub mod Told
+pub mod Saying
+pub mod Ends
+pub mod Outcomes
+pub mod Commands
+pub mod Whole
+pub mod Laws

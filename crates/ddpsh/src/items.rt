@@ -1,0 +1,64 @@
+// Items from a script.
+ghost use Rattle.std.specs.Prelude.{◌≡◌, ◌≤◌, ◌<◌, ◌^◌, ℕ, List, IfOk, IsErrOf, IsTrue, vec_capacity};
+ghost use Rattle.vdisk.specs.Causes.{Rose};
+ghost use Rattle.ddpsh.specs.declared.limits.TheConstants.{MOST_SCRIPT, MOST_KEPT};
+ghost use Rattle.ddpsh.specs.Input.{taken, IsLeft};
+ghost use Rattle.ddpsh.specs.Script.{asked, wanted};
+ghost use Rattle.ddpsh.specs.Reading.{IsItem};
+
+use crate::input::{Input, ScriptFault};
+use crate::lines::read_line;
+use crate::payload::read_payload;
+use crate::session::VOLUME;
+use cmdlet_line::{Line, parse};
+use vdisk::Source;
+
+/// How many bytes of payload a line takes.
+fn payload_count(line: &[u8]) -> Option<u64>
+    ensures { result ≡ wanted (asked line.now) }
+{
+    match parse(line, VOLUME) {
+        Err(_) => None,
+        Ok(Line::Silent) => None,
+        Ok(Line::Create(_)) => None,
+        Ok(Line::Write(_, _, count)) => Some(count),
+        Ok(Line::Read(_, _, _)) => None,
+    }
+}
+
+/// The next line with what stands behind it, or false at the end of the script. A line that takes no payload has an
+/// empty one.
+pub(crate) fn read_item<S: Source>(
+    script: &mut S,
+    input: &mut Input,
+    line: &mut Vec<u8>,
+    payload: &mut Vec<u8>,
+) -> Result<bool, ScriptFault>
+    requires room { MOST_KEPT ≤ vec_capacity line.old }
+    ensures item { (total : ℕ) (s : List ℕ) → IsLeft input.old (S.left script.old) total s →
+        IfOk result (λ some. IsItem s some line.new.items payload.new.items input.new (S.left script.new) total) }
+    ensures room { MOST_KEPT ≤ vec_capacity line.new }
+    ensures counted { IfOk result (λ some. IsTrue some → taken input.old < taken input.new) }
+    ensures grows { taken input.old ≤ taken input.new }
+    ensures over { (total : ℕ) (s : List ℕ) → IsLeft input.old (S.left script.old) total s →
+        IsErrOf result ScriptFault.TooLong → MOST_SCRIPT < total }
+    ensures later { S.faults script.old ≤ S.faults script.new }
+    ensures failed { IsErrOf result ScriptFault.Failed → Rose (S.faults script.old) (S.faults script.new) }
+{
+    payload.clear();
+    match read_line(script, input, line) {
+        Err(fault) => return Err(fault),
+        Ok(some) => {
+            if !some {
+                return Ok(false);
+            }
+        }
+    }
+    match payload_count(line) {
+        None => Ok(true),
+        Some(count) => match read_payload(script, input, payload, count) {
+            Err(fault) => Err(fault),
+            Ok(()) => Ok(true),
+        },
+    }
+}
