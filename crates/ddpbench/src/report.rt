@@ -1,0 +1,27 @@
+// Figures, and the rates that they show.
+use std::fmt;
+use std::time::Duration;
+
+/// A measured figure, which prints as `figure: NAME VALUE UNIT`.
+#[derive(Clone, Copy)]
+pub struct Figure {
+    pub name: &'static str,
+    pub value: u64,
+    pub unit: &'static str,
+}
+
+impl fmt::Display for Figure {
+    fn fmt<W: fmt::Write>(&self, f: &mut fmt::Formatter<W>) -> fmt::Result {
+        write!(f, "figure: {} {} {}", self.name, self.value, self.unit)
+    }
+}
+
+/// A figure in MB/s, of 10^6 bytes.
+pub fn rate(name: &'static str, bytes: u64, time: Duration) -> Figure {
+    let micros = time.as_micros().max(1);
+    Figure {
+        name,
+        value: (bytes as u128 / micros) as u64,
+        unit: "MB/s",
+    }
+}
