@@ -1,0 +1,23 @@
+//! The states of the clusters of a disk: each is free, used or deferred.
+//!
+//! A used cluster that is given up is deferred first, and is free again only once it is released: what was
+//! stored before may still name it. Contracts see a `Space` as the list of the states of its clusters, so the
+//! three sets are disjoint and cover all clusters. Only `Space::new` takes memory, 8 bytes a cluster, and every
+//! other call takes constant time.
+#![tactic(auto)]
+
+mod laws;
+mod memory;
+mod places;
+mod space;
+mod state;
+#[cfg(test)]
+mod tests;
+
+pub use laws::{
+    a_count_of_zero_means_none, each_cluster_has_a_state, the_counts_make_up_all,
+    the_states_are_disjoint,
+};
+pub use memory::Memory;
+pub use space::Space;
+pub use state::State;
