@@ -1,0 +1,4 @@
+mod Bytes
+mod Pieces
+mod Spelled
+mod Walks
