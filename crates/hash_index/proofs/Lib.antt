@@ -1,0 +1,4 @@
+pub mod PairOrder
+pub mod Searches
+pub mod SlotLaws
+pub mod Alike
