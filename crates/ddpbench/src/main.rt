@@ -5,34 +5,38 @@
 #![tactic(auto)]
 
 mod cut;
+mod index;
 mod lines;
 mod report;
+mod space;
 
 use std::env;
 use std::process::ExitCode;
 
-/// The largest size, in MiB: what one file of the volume holds.
-const MOST_SIZE: u64 = 1024;
+/// The largest size of `cut` and `lines`, in MiB: what one file of the volume holds.
+const MOST_MEBIBYTES: u64 = 1024;
+
+const USAGE: &str = "usage: ddpbench cut|lines MB, or ddpbench index|space COUNT";
 
 fn main(rt: HostRuntime) -> anyhow::Result<ExitCode> {
     let mut words = env::args(&rt)?;
     let _program = words.next();
     let (Some(bench), Some(size)) = (words.next(), words.next()) else {
-        rt.eprintln("usage: ddpbench cut|lines MB")?;
+        rt.eprintln(USAGE)?;
         return Ok(ExitCode::from(2));
     };
-    let size = match size.as_str().parse::<u64>() {
-        Ok(size) if size <= MOST_SIZE => size,
-        _ => {
-            rt.eprintln("ddpbench: a size is a number, at most 1024")?;
-            return Ok(ExitCode::from(2));
-        }
+    let Ok(size) = size.as_str().parse::<u32>() else {
+        rt.eprintln(USAGE)?;
+        return Ok(ExitCode::from(2));
     };
+    let mebibytes = u64::from(size);
     match bench.as_str() {
-        "cut" => cut::measure(&rt, size)?,
-        "lines" => lines::measure(&rt, size)?,
+        "cut" if mebibytes <= MOST_MEBIBYTES => cut::measure(&rt, mebibytes)?,
+        "lines" if mebibytes <= MOST_MEBIBYTES => lines::measure(&rt, mebibytes)?,
+        "index" if 0 < size => index::measure(&rt, size)?,
+        "space" if 0 < size => space::measure(&rt, size)?,
         _ => {
-            rt.eprintln("usage: ddpbench cut|lines MB")?;
+            rt.eprintln(USAGE)?;
             return Ok(ExitCode::from(2));
         }
     }

@@ -1,4 +1,6 @@
 // Figures, and the rates that they show.
+ghost use Rattle.std.specs.Prelude.{◌<◌};
+
 use std::fmt;
 use std::time::Duration;
 
@@ -23,5 +25,17 @@ pub fn rate(name: &'static str, bytes: u64, time: Duration) -> Figure {
         name,
         value: (bytes as u128 / micros) as u64,
         unit: "MB/s",
+    }
+}
+
+/// A figure in ns a call.
+pub fn cost(name: &'static str, calls: u32, time: Duration) -> Figure
+    requires { 0 < calls }
+{
+    let nanos = time.as_nanos() / u128::from(calls);
+    Figure {
+        name,
+        value: u64::try_from(nanos).unwrap_or(u64::MAX),
+        unit: "ns",
     }
 }
