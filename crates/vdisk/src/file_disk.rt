@@ -3,13 +3,24 @@ ghost use Rattle.std.specs.Prelude.{◌≡◌, ◌<◌, ◌≤◌, ◌+◌, ◌-
 
 use crate::disk::{Disk, Failed};
 use std::fs::{File, OpenFile, OpenOptions};
+use std::io;
 use std::os::unix::fs::FileExt;
+use std::path::Path;
 use std::rt::Files;
 
-/// A disk over a file of the system. It tells nothing of what it holds: that a file keeps its bytes is trusted.
+/// A disk over a file of the system, which it has for itself alone from `open` until it is dropped. It tells nothing
+/// of what it holds: the volume's promises rest on a file, its folder and their device that do as follows.
+///
+/// - A read gives the bytes that were written last.
+/// - No one changes or removes the file but by a `FileDisk`: the lock is advisory (flock).
+/// - After a sync that succeeds (fsync where the length may have changed since the last one, else fdatasync) a crash
+///   leaves the bytes and the length as they are. After one that fails no later sync is tried, since the system may
+///   have dropped what could not be written and would say nothing of it.
+/// - A crash changes no byte outside the ranges that were written since the last sync.
 #[derive(Drop)]
 pub struct FileDisk {
     file: Option<File>,
+    unsynced: Unsynced,
     size: u64,
     made: u64,
     faults: u64,
@@ -18,42 +29,39 @@ pub struct FileDisk {
     ghost counted: { faults < 2 ^ 64 },
 }
 
+/// What a sync has to make durable.
+#[derive(Clone, Copy)]
+enum Unsynced {
+    /// Bytes alone: the length is durable.
+    Bytes,
+    /// Bytes and the length.
+    Length,
+    /// Bytes that a failed sync may have lost.
+    Lost,
+}
+
 impl FileDisk {
     ghost use Rattle.vdisk.specs.Causes.{Rose};
     ghost use Rattle.vdisk.specs.FileDisk.{file_state, IsUnopened};
 
     /// Opens the file at this path, and makes an empty one where there is none and `create` says so. It never fails:
-    /// a file that could not be opened gives a disk of size 0 whose every call fails.
+    /// a file that could not be opened, also because another `FileDisk` has it, in this process or in another one,
+    /// gives a disk of size 0 whose every call fails.
     pub fn open<R: Files<File = File>>(rt: &R, path: &str, create: bool) -> Self
         ensures moment { (file_state result).moment ≡ 0 }
         ensures faults { (file_state result).faults ≡ 0 }
         ensures unopened { IsUnopened result → length (file_state result).image ≡ 0 }
     {
-        let opened = OpenOptions::new()
-            .read(true)
-            .write(true)
-            .create(create)
-            .open(rt, path);
-        match opened {
-            Ok(file) => FileDisk::over(file),
+        match open_alone(rt, path, create) {
+            Ok((file, size)) => FileDisk {
+                file: Some(file),
+                // Whoever made the file this long may not have synced it.
+                unsynced: Unsynced::Length,
+                size,
+                made: 0,
+                faults: 0,
+            },
             Err(_) => FileDisk::unopened(),
-        }
-    }
-
-    fn over(file: File) -> Self
-        ensures moment { result.made ≡ 0 }
-        ensures faults { result.faults ≡ 0 }
-        ensures unopened { IsUnopened result → result.size ≡ 0 }
-    {
-        let size = match file.metadata() {
-            Ok(about) => about.len(),
-            Err(_) => return FileDisk::unopened(),
-        };
-        FileDisk {
-            file: Some(file),
-            size,
-            made: 0,
-            faults: 0,
         }
     }
 
@@ -64,6 +72,7 @@ impl FileDisk {
     {
         FileDisk {
             file: None,
+            unsynced: Unsynced::Length,
             size: 0,
             made: 0,
             faults: 0,
@@ -102,6 +111,39 @@ impl FileDisk {
     }
 }
 
+impl Unsynced {
+    fn is_synced(self, file: &File) -> bool {
+        match self {
+            Unsynced::Bytes => file.sync_data().is_ok(),
+            Unsynced::Length => file.sync_all().is_ok(),
+            Unsynced::Lost => false,
+        }
+    }
+}
+
+/// The file and its length, once it is locked and its name is durable.
+fn open_alone<R: Files<File = File>>(rt: &R, path: &str, create: bool) -> io::Result<(File, u64)> {
+    let file = OpenOptions::new()
+        .read(true)
+        .write(true)
+        .create(create)
+        .open(rt, path)?;
+    file.try_lock()?;
+    let size = file.metadata()?.len();
+    // An empty file may have been made just now, or by a call that ended before it synced the folder.
+    if size == 0 {
+        File::open(rt, folder_of(path))?.sync_all()?;
+    }
+    Ok((file, size))
+}
+
+fn folder_of(path: &str) -> Path<'_> {
+    match Path::new(path).parent() {
+        Some(folder) if folder != Path::new("") => folder,
+        _ => Path::new("."),
+    }
+}
+
 impl Disk for FileDisk {
     ghost use Rattle.vdisk.specs.FileDisk.{file_state, IsUnopened};
     ghost use Rattle.vdisk.specs.Causes.{HasCause};
@@ -135,6 +177,9 @@ impl Disk for FileDisk {
         ensures unopened { IsUnopened self.old → IsErr result }
         ensures stays { IsUnopened self.new ↔ IsUnopened self.old }
     {
+        if let Unsynced::Bytes = self.unsynced {
+            self.unsynced = Unsynced::Length;
+        }
         let done = self.tick()
             && match &self.file {
                 Some(file) => file.set_len(to).is_ok(),
@@ -198,9 +243,14 @@ impl Disk for FileDisk {
     {
         let done = self.tick()
             && match &self.file {
-                Some(file) => file.sync_all().is_ok(),
+                Some(file) => self.unsynced.is_synced(file),
                 None => false,
             };
+        self.unsynced = if done {
+            Unsynced::Bytes
+        } else {
+            Unsynced::Lost
+        };
         self.answer(done)
     }
 }

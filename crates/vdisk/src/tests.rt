@@ -103,10 +103,15 @@ fn file_disk(rt: HostRuntime) -> Result<(), Fail> {
     let path = "file_disk_of_the_test.img";
     let _gone = fs::remove_file(&rt, path);
     let mut out = [1u8; 8];
-    let mut made = FileDisk::open(&rt, path, true);
-    fill(&mut made, &mut out)?;
-    assert_eq!(rt; out.as_slice(), b"\0\0abc\0\0\0".as_slice());
-    assert_eq!(rt; made.moment(), 3);
+    {
+        let mut made = FileDisk::open(&rt, path, true);
+        fill(&mut made, &mut out)?;
+        assert_eq!(rt; out.as_slice(), b"\0\0abc\0\0\0".as_slice());
+        assert_eq!(rt; made.moment(), 3);
+        let mut held = FileDisk::open(&rt, path, true);
+        assert_eq!(rt; (held.size(), held.sync()), (0, Err(Failed)));
+        made.sync()?;
+    }
     let mut again = FileDisk::open(&rt, path, false);
     assert_eq!(rt; again.size(), 8);
     again.read(1, &mut out[..4])?;
