@@ -25,7 +25,8 @@ CanAsk pairs tells Clear = Unit {0}
 -- what an index that stands for the pairs may answer, and the pairs that it then stands for
 abbrev pub Gives : List Pair → (ℕ → Option (List ℕ)) → Request → Answer → List Pair → Type 0
 Gives pairs tells (Find digest after) (Found result) next = Finds tells pairs digest after result × (next ≡ pairs)
-Gives pairs tells (Insert digest id) Inserted next = (kept : List Pair) × Keeps tells pairs kept × (next ≡ kept ++ (digest, id) ∷ [])
+Gives pairs tells (Insert digest id) Inserted next =
+    (kept : List Pair) × Keeps tells pairs kept × (next ≡ kept ++ (digest, id) ∷ [])
 Gives pairs tells (Insert digest id) Refused next = next ≡ pairs
 Gives pairs tells Clear Cleared next = next ≡ []
 Gives pairs tells request answer next = ⊥
@@ -33,7 +34,8 @@ Gives pairs tells request answer next = ⊥
 -- what an index that stands for the pairs may answer to a list of calls
 abbrev pub Answers : List Pair → List Call → List Answer → Type 0
 Answers pairs [] [] = Unit {0}
-Answers pairs (call ∷ calls) (answer ∷ answers) = (next : List Pair) × Gives pairs call.0 call.1 answer next × Answers next calls answers
+Answers pairs (call ∷ calls) (answer ∷ answers) =
+    (next : List Pair) × Gives pairs call.0 call.1 answer next × Answers next calls answers
 Answers pairs calls answers = ⊥
 
 -- the pairs after a call, with none left out
@@ -57,7 +59,9 @@ Fades pairs tells request calls = (p : Pair) → Contains pairs p → tells p.1 
 -- each call's condition is met, with none of the pairs left out, and a held id that was not known at one call is not
 -- known at a later one
 abbrev pub AreProper : List Pair → List Call → List Answer → Type 0
-AreProper pairs (call ∷ calls) (answer ∷ answers) = CanAsk pairs call.0 call.1 × Fades pairs call.0 call.1 calls × AreProper (pairs_after pairs call.1 answer) calls answers
+AreProper pairs (call ∷ calls) (answer ∷ answers) =
+    CanAsk pairs call.0 call.1 × Fades pairs call.0 call.1 calls
+    × AreProper (pairs_after pairs call.1 answer) calls answers
 AreProper pairs calls answers = Unit {0}
 
 -- whether an insert had no memory
@@ -67,5 +71,5 @@ is_refused answer = false
 
 -- any two indexes that hold nothing answer a list of calls alike, but for want of memory
 abbrev pub AnswersAreAlike : Type 0
-AnswersAreAlike = (calls : List Call) (xs ys : List Answer) → Answers [] calls xs → Answers [] calls ys → AreProper [] calls xs
-    → map is_refused xs ≡ map is_refused ys → xs ≡ ys
+AnswersAreAlike = (calls : List Call) (xs ys : List Answer) → Answers [] calls xs → Answers [] calls ys
+    → AreProper [] calls xs → map is_refused xs ≡ map is_refused ys → xs ≡ ys

@@ -32,7 +32,8 @@ pub enum Answer {
 pub fn ask<I: Index, T: Digests>(index: &mut I, request: &Request, tells: &T) -> Answer
     requires { FitsRequest request.now }
     ensures { (pairs : List Pair) → I.stands_for index.old pairs → CanAsk pairs (T.digest_of tells.now) request.now
-        → (next : List Pair) × Gives pairs (T.digest_of tells.now) request.now result next × I.stands_for index.new next }
+        → (next : List Pair) × Gives pairs (T.digest_of tells.now) request.now result next
+        × I.stands_for index.new next }
 {
     match *request {
         Request::Find { digest, after } => Answer::Found(index.find(&digest, after, tells)),

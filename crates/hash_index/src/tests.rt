@@ -1,4 +1,4 @@
-ghost use Rattle.std.specs.Prelude.{◌≡◌, Some, slice_get};
+ghost use Rattle.std.specs.Prelude.{◌≡◌, ◌==◌, if◌then◌else◌, Some, None, slice_get};
 
 use crate::{CompactIndex, Digests, Index, OrderedIndex};
 use std::alloc::{AllocError, Global};
@@ -18,16 +18,20 @@ impl Digests for Listed {
     }
 }
 
-/// One digest for each id.
+/// One digest for each id but this one.
 #[derive(Drop)]
 struct Alike {
     digest: [u8; 32],
+    forgotten: u64,
 }
 
 impl Digests for Alike {
-    ghost digest_of = { λ s _. Some s.digest };
+    ghost digest_of = { λ s id. if id == s.forgotten then None else Some s.digest };
 
-    fn digest_of(&self, _id: u64) -> Option<[u8; 32]> {
+    fn digest_of(&self, id: u64) -> Option<[u8; 32]> {
+        if id == self.forgotten {
+            return None;
+        }
         Some(self.digest)
     }
 }
@@ -77,7 +81,10 @@ fn a_thousand_digests(rt: HostRuntime) -> Result<(), Fail> {
 #[test]
 fn two_ids_under_one_digest(rt: HostRuntime) -> Result<(), Fail> {
     let digest = [7; 32];
-    let known = Alike { digest };
+    let known = Alike {
+        digest,
+        forgotten: 0,
+    };
     let mut ordered = OrderedIndex::new(rt.alloc());
     let mut compact = CompactIndex::new(rt.alloc());
     for id in [9, 5] {
@@ -96,5 +103,32 @@ fn two_ids_under_one_digest(rt: HostRuntime) -> Result<(), Fail> {
     }
     assert_eq!(rt; ordered.find(&[8; 32], 0, &known), None);
     assert_eq!(rt; compact.find(&[8; 32], 0, &known), None);
+    Ok(())
+}
+
+#[test]
+fn a_forgotten_id(rt: HostRuntime) -> Result<(), Fail> {
+    let digest = [7; 32];
+    let mut ordered = OrderedIndex::new(rt.alloc());
+    let mut compact = CompactIndex::new(rt.alloc());
+    // No id is 0. The ids from 10 on come when 5 is forgotten, and they make the compact index grow.
+    for (forgotten, first, end) in [(0, 5, 8), (5, 10, 80)] {
+        let tells = Alike { digest, forgotten };
+        for id in first..end {
+            ordered.insert(&digest, id, &tells)?;
+            compact.insert(&digest, id, &tells)?;
+        }
+    }
+    for (forgotten, after, found) in [
+        (5, 0, Some(6)),
+        (6, 5, Some(7)),
+        (7, 6, Some(10)),
+        (79, 78, None),
+        (0, 78, Some(79)),
+    ] {
+        let tells = Alike { digest, forgotten };
+        assert_eq!(rt; ordered.find(&digest, after, &tells), found);
+        assert_eq!(rt; compact.find(&digest, after, &tells), found);
+    }
     Ok(())
 }
