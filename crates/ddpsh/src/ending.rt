@@ -26,6 +26,16 @@ pub(crate) struct Ran {
 }
 
 impl Ran {
+    pub(crate) fn new(end: End, refused: bool, lines: u64) -> Self
+        ensures { result ≡ record { end = end; refused = refused; lines = lines } }
+    {
+        Ran {
+            end,
+            refused,
+            lines,
+        }
+    }
+
     /// The program's exit status.
     pub(crate) fn status(&self) -> u8
         ensures { result ≡ status_of self.now.end self.now.refused }

@@ -76,9 +76,11 @@ fn serve_line<K: Sink>(
     out: &mut K,
 ) -> Result<Answered, Stop>
     ensures done { IfOk result (λ a.
-        IsWritten (item_of (asked line.now) behind.now) (state_of files.old) (state_of files.new) a (K.held out.old) (K.held out.new)) }
+        IsWritten (item_of (asked line.now) behind.now) (state_of files.old) (state_of files.new) a (K.held out.old)
+        (K.held out.new)) }
     ensures stopped { IfErr result (λ stop.
-        Stopped stop (item_of (asked line.now) behind.now) (state_of files.old) (state_of files.new) (K.held out.old) (K.held out.new)) }
+        Stopped stop (item_of (asked line.now) behind.now) (state_of files.old) (state_of files.new) (K.held out.old)
+        (K.held out.new)) }
     ensures later { K.faults out.old ≤ K.faults out.new }
     ensures sink { IsErrOf result Stop.Sink → Rose (K.faults out.old) (K.faults out.new) }
 {
@@ -120,43 +122,21 @@ pub(crate) fn serve<S: Source, K: Sink>(
     let mut lines = 0u64;
     let (mut input, mut line) = match rooms(alloc) {
         Ok(rooms) => rooms,
-        Err(_) => {
-            return Ran {
-                end: End::Memory,
-                refused,
-                lines,
-            };
-        }
+        Err(_) => return Ran::new(End::Memory, refused, lines),
     };
     let mut payload = Vec::new(alloc);
     let mut text = Vec::new(alloc);
     'items: loop {
         match read_item(script, &mut input, &mut line, &mut payload) {
-            Err(fault) => {
-                return Ran {
-                    end: end_of_fault(fault),
-                    refused,
-                    lines,
-                };
-            }
+            Err(fault) => return Ran::new(end_of_fault(fault), refused, lines),
             Ok(some) => {
                 if !some {
-                    return Ran {
-                        end: End::Over,
-                        refused,
-                        lines,
-                    };
+                    return Ran::new(End::Over, refused, lines);
                 }
             }
         }
         match serve_line(files, &line, &payload, &mut text, out) {
-            Err(stop) => {
-                return Ran {
-                    end: end_of_stop(stop),
-                    refused,
-                    lines,
-                };
-            }
+            Err(stop) => return Ran::new(end_of_stop(stop), refused, lines),
             Ok(answered) => {
                 refused = is_refusal(refused, answered);
                 lines += counted(answered);
