@@ -72,8 +72,9 @@ pub fn words_ask_what_they_say()
 
 /// A line that has more words is refused by the first of them.
 pub fn further_words_are_refused()
-    ensures { (volume line word : List ℕ) (ask : Ask) (rest : List (List ℕ)) → IsPlain line → AreInRange ask → ask ≢ Silent
-        → words_of line ≡ words_for ask ++ word ∷ rest → line_of volume line ≡ Err (UnknownParameter word) }
+    ensures { (volume line word : List ℕ) (ask : Ask) (rest : List (List ℕ)) → IsPlain line → AreInRange ask
+        → ask ≢ Silent → words_of line ≡ words_for ask ++ word ∷ rest
+        → line_of volume line ≡ Err (UnknownParameter word) }
 {}
 
 /// The first word at fault from the left decides, whatever stands behind it.

@@ -45,7 +45,8 @@ Ends ends.Source rest stage now mid held = (now ≡ stage) × (held ≡ mid)
 Ends ends.TooLong rest stage now mid held = (now ≡ stage) × (held ≡ mid)
 
 -- a run that is not over: the items so far are answered, and the rest is left
-pub record Progress (opening now : State) (script : List ℕ) (input : Input) (source before held : Option (List ℕ)) (refused : Bool) (lines : ℕ) : Type 0 where
+pub record Progress (opening now : State) (script : List ℕ) (input : Input) (source before held : Option (List ℕ))
+    (refused : Bool) (lines : ℕ) : Type 0 where
   pub entries : List Entry
   pub rest : List ℕ
   pub served : Served opening script entries rest now

@@ -9,7 +9,8 @@ use Rattle.ddpsh.specs.Runs.{Entry, Served, output_of}
 
 -- in a state an item makes the same calls with the same replies, has one answer, and leaves one state
 abbrev pub ItemsHaveOneAnswer : Type 0
-ItemsHaveOneAnswer = (item : Item) (before : State) (calls others : List (Call × Reply)) (answer other : Answer) (after later : State)
+ItemsHaveOneAnswer = (item : Item) (before : State) (calls others : List (Call × Reply)) (answer other : Answer)
+    (after later : State)
     → Comes item before calls answer after → Comes item before others other later
     → (calls ≡ others) × (answer ≡ other) × (after ≡ later)
 

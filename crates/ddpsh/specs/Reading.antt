@@ -55,19 +55,22 @@ IsPassedOn false input source total bytes =
     (rest : List ℕ) × IsLeft input source total rest × (behind_line bytes ≡ behind_line rest)
 
 -- a line was read, or the end was found
-pub record IsLine (bytes : List ℕ) (found : Bool) (kept : List ℕ) (input : Input) (source : Option (List ℕ)) (total : ℕ) : Type 0 where
+pub record IsLine (bytes : List ℕ) (found : Bool) (kept : List ℕ) (input : Input) (source : Option (List ℕ))
+    (total : ℕ) : Type 0 where
   pub some : found ≡ is_some_byte bytes
   pub line : IsKept kept (line_text bytes)
   pub left : IsLeft input source total (behind_line bytes)
 
 -- a payload of so many bytes was read, with the byte in its newline's place; where that is another byte, what stands up
 -- to the next newline was passed over
-pub record IsPayload (count : ℕ) (bytes payload : List ℕ) (input : Input) (source : Option (List ℕ)) (total : ℕ) : Type 0 where
+pub record IsPayload (count : ℕ) (bytes payload : List ℕ) (input : Input) (source : Option (List ℕ))
+    (total : ℕ) : Type 0 where
   pub payload_is : payload ≡ take (count + 1) bytes
   pub left : IsLeft input source total (behind_line (drop count bytes))
 
 -- an item was read, or the end was found
-pub record IsItem (bytes : List ℕ) (found : Bool) (line payload : List ℕ) (input : Input) (source : Option (List ℕ)) (total : ℕ) : Type 0 where
+pub record IsItem (bytes : List ℕ) (found : Bool) (line payload : List ℕ) (input : Input) (source : Option (List ℕ))
+    (total : ℕ) : Type 0 where
   pub some : found ≡ is_some_byte bytes
   pub item : found ≡ true → item_of (asked line) payload ≡ first_item bytes
   pub left : found ≡ true → IsLeft input source total (behind_item bytes)

@@ -13,7 +13,8 @@ abbrev pub opening : State
 opening = record { volume = [] }
 
 -- a run over the script, its status and count of answers, and its last line
-pub record IsRun (script : List ℕ) (before held : Option (List ℕ)) (faults_before faults_now : ℕ) (outcome : Outcome) : Type 0 where
+pub record IsRun (script : List ℕ) (before held : Option (List ℕ)) (faults_before faults_now : ℕ)
+    (outcome : Outcome) : Type 0 where
   pub ran : Ran
   pub closing : State
   pub mid : Option (List ℕ)

@@ -65,9 +65,11 @@ fn write_line(
     text: &mut Vec<u8>,
 ) -> Result<Answered, AllocError>
     ensures ok { IfOk result (λ a.
-        IsServed (with_payload (Write name.now at count) behind.now (Some count)) files.old files.new a text.new.items) }
+        IsServed (with_payload (Write name.now at count) behind.now (Some count)) files.old files.new a
+        text.new.items) }
     ensures err { OnErr result
-        (Broke (with_payload (Write name.now at count) behind.now (Some count)) (state_of files.old) (state_of files.new)) }
+        (Broke (with_payload (Write name.now at count) behind.now (Some count)) (state_of files.old)
+        (state_of files.new)) }
 {
     if (behind.len() as u64) < count {
         return refused(text, b" Cut", b"");

@@ -46,13 +46,16 @@ abbrev pub ReplaySplits : Type 0
 ReplaySplits = (v : Volume) (front rest : List (Call × Reply)) → replay v (front ++ rest) ≡ replay (replay v front) rest
 
 abbrev pub LegalSplits : Type 0
-LegalSplits = (v : Volume) (front rest : List (Call × Reply)) → Legal v (front ++ rest) → Legal v front × Legal (replay v front) rest
+LegalSplits = (v : Volume) (front rest : List (Call × Reply)) → Legal v (front ++ rest)
+    → Legal v front × Legal (replay v front) rest
 
 abbrev pub LegalJoins : Type 0
-LegalJoins = (v : Volume) (front rest : List (Call × Reply)) → Legal v front → Legal (replay v front) rest → Legal v (front ++ rest)
+LegalJoins = (v : Volume) (front rest : List (Call × Reply)) → Legal v front → Legal (replay v front) rest
+    → Legal v (front ++ rest)
 
 abbrev pub EmptyIsLawful : Type 0
 EmptyIsLawful = IsLawfulVolume []
 
 abbrev pub CallsKeepLawfulVolumes : Type 0
-CallsKeepLawfulVolumes = (v : Volume) (call : Call) (given : Reply) → IsLawfulVolume v → IsLawfulVolume (after v call given)
+CallsKeepLawfulVolumes = (v : Volume) (call : Call) (given : Reply) → IsLawfulVolume v
+    → IsLawfulVolume (after v call given)

@@ -33,7 +33,8 @@ pub record IsOwn (v : Volume) (call : Call) (given : Reply) (w : Volume) : Type 
   pub own : given ≡ own_reply (plain v call)
   pub left : w ≡ after v call given
 
--- the result of code that answers the plain machine's own reply, or a refusal as an error; want of memory changes nothing
+-- the result of code that answers the plain machine's own reply, or a refusal as an error; want of memory changes
+-- nothing
 abbrev pub IsOwnResult : Volume → Call → Result Reply Fault → Volume → Type 0
 IsOwnResult v call (Ok given) w = IsOwn v call given w
 IsOwnResult v call (Err Memory) w = w ≡ v

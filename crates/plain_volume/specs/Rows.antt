@@ -24,13 +24,15 @@ AnEmptyFileReadsNothing = Legal [] ((Create (codes "a"), Done) ∷ (Read (codes 
     ∷ (Read (codes "a") 1 0, Refused (OutsideFile 0)) ∷ [])
 
 abbrev pub AGapReadsAsZeros : Type 0
-AGapReadsAsZeros = Legal [] ((Create (codes "a"), Done) ∷ (Write (codes "a") 10000 (codes "x"), Done) ∷ (Stat (codes "a"), Length 10001)
-    ∷ (Read (codes "a") 9998 3, Bytes (0 ∷ 0 ∷ 120 ∷ [])) ∷ [])
+AGapReadsAsZeros = Legal [] ((Create (codes "a"), Done) ∷ (Write (codes "a") 10000 (codes "x"), Done)
+    ∷ (Stat (codes "a"), Length 10001) ∷ (Read (codes "a") 9998 3, Bytes (0 ∷ 0 ∷ 120 ∷ [])) ∷ [])
 
 -- the names are listed by asking for the next one
 abbrev pub RenamedAndGrown : Type 0
-RenamedAndGrown = Legal [] ((Create (codes "b"), Done) ∷ (Create (codes "a"), Done) ∷ (Next None, Name (Some (codes "a")))
-    ∷ (Stat (codes "a"), Length 0) ∷ (Next (Some (codes "a")), Name (Some (codes "b"))) ∷ (Stat (codes "b"), Length 0)
-    ∷ (Next (Some (codes "b")), Name None) ∷ (Rename (codes "a") (codes "b"), Refused Exists) ∷ (Rename (codes "a") (codes "c"), Done)
-    ∷ (SetLength (codes "c") 3, Done) ∷ (Read (codes "c") 0 3, Bytes (0 ∷ 0 ∷ 0 ∷ [])) ∷ (Create (codes "b"), Refused Exists)
-    ∷ (Delete (codes "a"), Refused NoFile) ∷ [])
+RenamedAndGrown = Legal [] ((Create (codes "b"), Done) ∷ (Create (codes "a"), Done)
+    ∷ (Next None, Name (Some (codes "a"))) ∷ (Stat (codes "a"), Length 0)
+    ∷ (Next (Some (codes "a")), Name (Some (codes "b"))) ∷ (Stat (codes "b"), Length 0)
+    ∷ (Next (Some (codes "b")), Name None)
+    ∷ (Rename (codes "a") (codes "b"), Refused Exists) ∷ (Rename (codes "a") (codes "c"), Done)
+    ∷ (SetLength (codes "c") 3, Done) ∷ (Read (codes "c") 0 3, Bytes (0 ∷ 0 ∷ 0 ∷ []))
+    ∷ (Create (codes "b"), Refused Exists) ∷ (Delete (codes "a"), Refused NoFile) ∷ [])

@@ -70,7 +70,8 @@ is_within at len p = nat_le at p && nat_lt p (at + len)
 
 -- a cell beside a written range, in the block of its first or last byte; blocks are of 4096 bytes
 abbrev pub is_beside : ℕ → ℕ → ℕ → Bool
-is_beside at len p = (p / 4096 == at / 4096 || p / 4096 == (at + len - 1) / 4096) && (nat_lt p at || nat_le (at + len) p)
+is_beside at len p =
+    (p / 4096 == at / 4096 || p / 4096 == (at + len - 1) / 4096) && (nat_lt p at || nat_le (at + len) p)
 
 -- the bytes of cells that are not lost
 abbrev pub bytes_of : List Cell → List ℕ

@@ -5,4 +5,5 @@ use Rattle.std.specs.Prelude.{◌≡◌, ◌⊎◌, ◌<◌, ◌≤◌, ◌+◌,
 pub record IsMix (at : ℕ) (bytes image mix : List ℕ) : Type 0 where
   pub size : length mix ≡ length image
   pub each : (i : ℕ)
-      → (get_or mix i 0 ≡ get_or image i 0) ⊎ ((at ≤ i) × (i < at + length bytes) × (get_or mix i 0 ≡ get_or bytes (i - at) 0))
+      → (get_or mix i 0 ≡ get_or image i 0)
+      ⊎ ((at ≤ i) × (i < at + length bytes) × (get_or mix i 0 ≡ get_or bytes (i - at) 0))

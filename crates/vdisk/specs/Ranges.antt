@@ -10,7 +10,11 @@ changed_same at n x = record { before = refl; after = refl; size = refl }
 
 pub changed_then : (at n : ℕ) (x y z : List ℕ) → ChangedWithin at n x y → ChangedWithin at n y z
     → ChangedWithin at n x z
-changed_then at n x y z first second = record { before = second.before ∙ first.before; after = second.after ∙ first.after; size = second.size ∙ first.size }
+changed_then at n x y z first second = record {
+  before = second.before ∙ first.before;
+  after = second.after ∙ first.after;
+  size = second.size ∙ first.size;
+}
 
 pub same_front : (a b : ℕ) (x y : List ℕ) → a ≤ b → take b y ≡ take b x → take a y ≡ take a x
 same_front a b x y le same = sym (take-take a b y le) ∙ ap (λ (l : List ℕ). take a l) same ∙ take-take a b x le
@@ -40,7 +44,8 @@ length-part at len x fits = omega (arith, length-take len (drop at x), length-dr
 pub part_apart : (a n at len : ℕ) (x y : List ℕ) → (at + len ≤ a) ⊎ (a + n ≤ at) → ChangedWithin a n x y
     → part at len y ≡ part at len x
 part_apart a n at len x y apart change = elim apart [
-  | inl low ↦ sym (drop-take at len y) ∙ ap (λ (l : List ℕ). drop at l) (same_front (at + len) a x y low change.before) ∙ drop-take at len x
+  | inl low ↦ sym (drop-take at len y)
+      ∙ ap (λ (l : List ℕ). drop at l) (same_front (at + len) a x y low change.before) ∙ drop-take at len x
   | inr high ↦ ap (λ (l : List ℕ). take len l) (same_back (a + n) at x y high change.after)
 ]
 
@@ -54,7 +59,8 @@ changed_part at len k n x y fits within change =
     ∙ ap (λ (q : List ℕ). take (len - (k + n)) q) (drop-drop (k + n) at l)
     ∙ (let same : at + (k + n) ≡ at + k + n = omega arith in ap (λ (j : ℕ). take (len - (k + n)) (drop j l)) same) in
     let head : (l : List ℕ)
-    → take k (part at len l) ≡ drop at (take (at + k) l) = λ l. take-take k len (drop at l) (omega (arith, within)) ∙ sym (drop-take at k l) in
+    → take k (part at len l) ≡ drop at (take (at + k) l)
+    = λ l. take-take k len (drop at l) (omega (arith, within)) ∙ sym (drop-take at k l) in
     record {
       before = head y ∙ ap (λ (l : List ℕ). drop at l) change.before ∙ sym (head x);
       after = tail y ∙ ap (λ (l : List ℕ). take (len - (k + n)) l) change.after ∙ sym (tail x);
@@ -78,5 +84,6 @@ part_part at len k n x within =
 pub part_written : (at : ℕ) (x b y : List ℕ) → at + length b ≤ length x → Holds x at b y → part at (length b) y ≡ b
 part_written at x b y fits holds =
     ap (λ (l : List ℕ). take (length b) (drop at l)) (holds ∙ append_assoc (take at x) b (drop (at + length b) x))
-    ∙ ap (λ (l : List ℕ). take (length b) l) (drop_at (take at x) (b ++ drop (at + length b) x) at (length-take-le at x (omega arith)))
+    ∙ ap (λ (l : List ℕ). take (length b) l)
+    (drop_at (take at x) (b ++ drop (at + length b) x) at (length-take-le at x (omega arith)))
     ∙ take_at b (drop (at + length b) x) (length b) refl

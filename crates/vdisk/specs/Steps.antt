@@ -12,14 +12,20 @@ pub record Keeps (old new : DiskState) (P : List ℕ → Type 0) : Type 0 where
 
 -- before the first call
 pub keeps_start : (s : DiskState) (P : List ℕ → Type 0) → ((c : List ℕ) → s.may_leave c → P c) → Keeps s s P
-keeps_start s P here = record { adds = record { later = omega arith; since = λ t c le left. inl left }; now = here; tells = refl }
+keeps_start s P here = record {
+  adds = record { later = omega arith; since = λ t c le left. inl left };
+  now = here;
+  tells = refl;
+}
 
 -- one run, and then another
 pub keeps_then : (a b c : DiskState) (P : List ℕ → Type 0) → Keeps a b P → Keeps b c P → Keeps a c P
 keeps_then a b c P first second = record {
   adds = record {
     later = omega (arith, first.adds.later, second.adds.later);
-    since = λ t image le left. ⊎_elim (first.adds.since t image le) (λ p. inr p) (second.adds.since t image (omega (arith, le, first.adds.later)) left);
+    since = λ t image le left.
+        ⊎_elim (first.adds.since t image le) (λ p. inr p)
+        (second.adds.since t image (omega (arith, le, first.adds.later)) left);
   };
   now = second.now;
   tells = second.tells ∙ first.tells;
@@ -64,14 +70,17 @@ keeps_read a b P same here = record {
 pub keeps_write : (a b : DiskState) (at n : ℕ) (P : List ℕ → Type 0) → Elapses a b
     → Follows (ChangedWithin at n) a.may_leave b.may_leave
     → ((d c : List ℕ) → ChangedWithin at n d c → P d → P c) → ((c : List ℕ) → a.may_leave c → P c) → Keeps a b P
-keeps_write a b at n P time crash blind here = keeps_call a b P time (λ c left. let from = crash c left in blind from.0 c from.2 (here from.0 from.1))
+keeps_write a b at n P time crash blind here =
+    keeps_call a b P time (λ c left. let from = crash c left in blind from.0 c from.2 (here from.0 from.1))
 
 -- What a crash since a run began might have left.
 pub keeps_each : (a b : DiskState) (P : List ℕ → Type 0) → Keeps a b P → ((c : List ℕ) → a.may_leave c → P c)
     → (c : List ℕ) → b.left_since a.moment c → P c
-keeps_each a b P run here c left = ⊎_elim (λ was. here c (a.only_now c was)) (λ p. p) (run.adds.since a.moment c (omega arith) left)
+keeps_each a b P run here c left =
+    ⊎_elim (λ was. here c (a.only_now c was)) (λ p. p) (run.adds.since a.moment c (omega arith) left)
 
--- The same runs of calls in a range, which end with a sync: a crash leaves what it might have left before, but for bytes of the range.
+-- The same runs of calls in a range, which end with a sync: a crash leaves what it might have left before, but for
+-- bytes of the range.
 pub record TornWithin (at n : ℕ) (old new : DiskState) : Type 0 where
   pub adds : Adds old new (λ c. (d : List ℕ) × old.may_leave d × ChangedWithin at n d c)
   pub now : (c : List ℕ) → new.may_leave c → (d : List ℕ) × old.may_leave d × ChangedWithin at n d c
@@ -80,7 +89,8 @@ pub record TornWithin (at n : ℕ) (old new : DiskState) : Type 0 where
 pub torn_write : (a b : DiskState) (at n : ℕ) → Elapses a b
     → Follows (ChangedWithin at n) a.may_leave b.may_leave → TornWithin at n a b
 torn_write a b at n time crash =
-    let run = keeps_call a b (λ c. (d : List ℕ) × a.may_leave d × ChangedWithin at n d c) time (λ c left. crash c left) in
+    let run = keeps_call a b (λ c. (d : List ℕ) × a.may_leave d × ChangedWithin at n d c) time
+    (λ c left. crash c left) in
     record { adds = run.adds; now = run.now; tells = run.tells }
 
 pub torn_sync : (a b c : DiskState) (at n : ℕ) → TornWithin at n a b → Elapses b c
@@ -97,13 +107,16 @@ pub keeps_torn : (a b : DiskState) (at n : ℕ) (P Q : List ℕ → Type 0) → 
 keeps_torn a b at n P Q torn here carry = record {
   adds = record {
     later = torn.adds.later;
-    since = λ t c le left. ⊎_elim (λ was. inl was) (λ from. inr (carry from.0 c from.2 (here from.0 from.1))) (torn.adds.since t c le left);
+    since = λ t c le left.
+        ⊎_elim (λ was. inl was) (λ from. inr (carry from.0 c from.2 (here from.0 from.1)))
+        (torn.adds.since t c le left);
   };
   now = λ c left. let from = torn.now c left in carry from.0 c from.2 (here from.0 from.1);
   tells = torn.tells;
 }
 
--- What a crash since a moment before a call might have left, it might have left by then, or it may leave after the call.
+-- What a crash since a moment before a call might have left, it might have left by then, or it may leave after the
+-- call.
 pub since_call : (a b : DiskState) → Elapses a b → (t : ℕ) (c : List ℕ) → t ≤ a.moment → b.left_since t c
     → a.left_since t c ⊎ b.may_leave c
 since_call a b time = time.adds.since
@@ -112,11 +125,13 @@ since_call a b time = time.adds.since
 pub since_calls : (a b c : DiskState) → Elapses a b → Elapses b c → (t : ℕ) (image : List ℕ) → t ≤ a.moment
     → c.left_since t image → a.left_since t image ⊎ (b.may_leave image ⊎ c.may_leave image)
 since_calls a b c first second t image le left =
-    ⊎_elim (λ by_b. ⊎_elim (λ by_a. inl by_a) (λ at_b. inr (inl at_b)) (first.adds.since t image le by_b)) (λ at_c. inr (inr at_c))
+    ⊎_elim (λ by_b. ⊎_elim (λ by_a. inl by_a) (λ at_b. inr (inl at_b)) (first.adds.since t image le by_b))
+    (λ at_c. inr (inr at_c))
     (second.adds.since t image (omega (arith, le, first.adds.later)) left)
 
 -- A write leaves each byte outside its range as a crash before it might have left it: what nobody names may be written.
 pub unnamed_stays : (a b : DiskState) (at n place len : ℕ)
     → Follows (ChangedWithin at n) a.may_leave b.may_leave → (place + len ≤ at) ⊎ (at + n ≤ place)
     → (c : List ℕ) → b.may_leave c → (d : List ℕ) × a.may_leave d × (part place len c ≡ part place len d)
-unnamed_stays a b at n place len crash apart c left = let from = crash c left in (from.0, from.1, part_apart at n place len from.0 c apart from.2)
+unnamed_stays a b at n place len crash apart c left =
+    let from = crash c left in (from.0, from.1, part_apart at n place len from.0 c apart from.2)

@@ -95,7 +95,8 @@ fn clear(image: &mut [u8], from: usize)
 /// Which places a crash may change.
 fn pending_places(alloc: Global, size: usize, events: &[Event]) -> Result<Vec<bool>, Memory>
     ensures size { IfOk result (λ v. length v.items ≡ size) }
-    ensures places { IfOk result (λ v. (i : ℕ) → i < size → get_or v.items i false ≡ is_pending (reverse events.now) i) }
+    ensures places { IfOk result (λ v.
+        (i : ℕ) → i < size → get_or v.items i false ≡ is_pending (reverse events.now) i) }
 {
     let mut pending = vec![in alloc; false; size]?;
     mark_pending(&mut pending, events);
@@ -143,7 +144,8 @@ fn mark(pending: &mut [bool], at: usize, n: usize)
 /// Draws a byte for each pending place, in ascending order.
 fn draw(image: &mut [u8], pending: &[bool], seed: u64)
     requires { length pending.now ≡ length image.old }
-    ensures clean { (i : ℕ) → i < length image.old → get_or pending.now i false ≡ false → get_or image.new i 0 ≡ get_or image.old i 0 }
+    ensures clean { (i : ℕ) → i < length image.old → get_or pending.now i false ≡ false
+        → get_or image.new i 0 ≡ get_or image.old i 0 }
     ensures drawn { (i : ℕ) → i < length image.old → get_or pending.now i false ≡ true →
         get_or image.new i 0 ≡ drawn_byte seed (places_below (λ k. get_or pending.now k false) i) }
 {

@@ -60,7 +60,8 @@ pub trait Disk {
         ensures written { IsTrue (state self.old).tells →
             OnOk result (Holds (state self.old).image at bytes.now (state self.new).image) }
         ensures image { ChangedWithin at (length bytes.now) (state self.old).image (state self.new).image }
-        ensures crash { Follows (ChangedWithin at (length bytes.now)) (state self.old).may_leave (state self.new).may_leave }
+        ensures crash { Follows (ChangedWithin at (length bytes.now)) (state self.old).may_leave
+            (state self.new).may_leave }
         ensures time { Elapses (state self.old) (state self.new) }
         ensures end { RefusedAtTheEnd (state self.old) result }
         ensures same { is_same self.old self.new }
@@ -68,7 +69,8 @@ pub trait Disk {
 
     /// Makes all that was written safe: after it, a crash leaves what reads give.
     fn sync(&mut self) -> Result<(), Failed>
-        ensures durable { IsTrue (state self.old).tells → OnOk result (Only (state self.old).image (state self.new).may_leave) }
+        ensures durable { IsTrue (state self.old).tells
+            → OnOk result (Only (state self.old).image (state self.new).may_leave) }
         ensures image { (state self.new).image ≡ (state self.old).image }
         ensures crash { (c : List ℕ) → (state self.new).may_leave c → (state self.old).may_leave c }
         ensures time { Elapses (state self.old) (state self.new) }

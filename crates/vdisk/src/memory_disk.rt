@@ -146,8 +146,8 @@ impl Disk for MemoryDisk {
         ensures fails { FailsNext (memory_plan self.old) → IsErr result }
         ensures synced { (i : ℕ) → synced_byte self.new i ≡ synced_byte self.old i }
         ensures refused { OnErr result ((memory_state self.new).image ≡ (memory_state self.old).image) }
-        ensures any_end { OnOk result ((d c : List ℕ) → (memory_state self.old).may_leave d → GrownTo to d c → length c ≡ to →
-            (memory_state self.new).may_leave c) }
+        ensures any_end { OnOk result ((d c : List ℕ) → (memory_state self.old).may_leave d → GrownTo to d c
+            → length c ≡ to → (memory_state self.new).may_leave c) }
     {
         let fails = self.plan.next_fails();
         if self.moment == u64::MAX {
@@ -172,7 +172,8 @@ impl Disk for MemoryDisk {
         ensures cause { HasCause (memory_state self.old).faults (memory_state self.new).faults result }
         ensures plan { Tried (memory_plan self.old) (memory_plan self.new) }
         ensures end { RefusedAtTheEnd (memory_state self.old) result }
-        ensures fails { IsErr result ↔ (FailsNext (memory_plan self.old) ⊎ ((memory_state self.old).moment ≡ 2 ^ 64 - 1)) }
+        ensures fails { IsErr result
+            ↔ (FailsNext (memory_plan self.old) ⊎ ((memory_state self.old).moment ≡ 2 ^ 64 - 1)) }
         ensures synced { (i : ℕ) → synced_byte self.new i ≡ synced_byte self.old i }
     {
         let fails = self.plan.next_fails();
@@ -187,7 +188,8 @@ impl Disk for MemoryDisk {
     fn write(&mut self, at: u64, bytes: &[u8]) -> Result<(), Failed>
         requires { at + length bytes.now ≤ length (memory_state self.old).image }
         ensures written { OnOk result (Holds (memory_state self.old).image at bytes.now (memory_state self.new).image) }
-        ensures image { ChangedWithin at (length bytes.now) (memory_state self.old).image (memory_state self.new).image }
+        ensures image { ChangedWithin at (length bytes.now) (memory_state self.old).image
+            (memory_state self.new).image }
         ensures crash { Follows (ChangedWithin at (length bytes.now)) (memory_state self.old).may_leave
             (memory_state self.new).may_leave }
         ensures time { Elapses (memory_state self.old) (memory_state self.new) }
@@ -240,7 +242,8 @@ impl Disk for MemoryDisk {
         ensures fails { FailsNext (memory_plan self.old) → IsErr result }
         ensures synced { OnOk result ((i : ℕ) → synced_byte self.new i ≡ get_or (memory_state self.old).image i 0) }
         ensures unsynced { OnErr result ((i : ℕ) → synced_byte self.new i ≡ synced_byte self.old i) }
-        ensures refused { OnErr result ((c : List ℕ) → (memory_state self.old).may_leave c → (memory_state self.new).may_leave c) }
+        ensures refused { OnErr result ((c : List ℕ) → (memory_state self.old).may_leave c
+            → (memory_state self.new).may_leave c) }
     {
         let fails = self.plan.next_fails();
         if self.moment == u64::MAX {

@@ -90,7 +90,8 @@ impl Source for MemorySource {
         ensures plan { Tried (source_plan self.old) (source_plan self.new) }
         ensures fails { IsErr result ↔ FailsNext (source_plan self.old) }
         ensures most { source_most self.new ≡ source_most self.old }
-        ensures count { IfOk result (λ n. n ≡ min (min (length (rest_of self.old)) (length out.old)) (source_most self.old)) }
+        ensures count { IfOk result (λ n.
+            n ≡ min (min (length (rest_of self.old)) (length out.old)) (source_most self.old)) }
     {
         if self.plan.next_fails() {
             return Err(count_fault(&mut self.faults));
