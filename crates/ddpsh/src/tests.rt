@@ -38,7 +38,7 @@ fn run_over<S: Source, K: Sink>(
 /// A script, what it prints, its status, and how many answers it has.
 type Case = (&'static [u8], &'static [u8], u8, u64);
 
-fn form_cases() -> [Case; 14] {
+fn form_cases() -> [Case; 15] {
     [
         (b"", b"", 0, 0),
         (b"\n\n  \n# \"x\n", b"", 0, 0),
@@ -69,6 +69,12 @@ fn form_cases() -> [Case; 14] {
             2,
         ),
         (b"create a\nread a 0 0\n", b"ok\nok 0\n\n", 0, 2),
+        (
+            b"create a\nread a 1 0\n",
+            b"ok\nrefused OutsideFile 0\n",
+            1,
+            2,
+        ),
     ]
 }
 
@@ -231,6 +237,12 @@ fn faults(rt: HostRuntime) -> Result<(), Fail> {
     let mut none: ReaderSource<&[u8]> = ReaderSource::new(None);
     let mut out = MemorySink::new(rt.alloc());
     let outcome = run_over(rt.alloc(), &COMMAND, &mut none, &mut out)?;
+    assert_eq!(rt; (outcome.status, outcome.lines), (7, 0));
+    assert!(rt; out.bytes() == b"fault source\n".as_slice());
+    let mut failing = MemorySource::new(b"create a\n".as_slice().to_vec(rt.alloc())?);
+    failing.fail_at([1u64].as_slice().to_vec(rt.alloc())?);
+    let mut out = MemorySink::new(rt.alloc());
+    let outcome = run_over(rt.alloc(), &COMMAND, &mut failing, &mut out)?;
     assert_eq!(rt; (outcome.status, outcome.lines), (7, 0));
     assert!(rt; out.bytes() == b"fault source\n".as_slice());
     let mut held = [0u8; 4];
