@@ -1,0 +1,7 @@
+mod Order
+mod Joined
+mod Search
+mod Edits
+mod Found
+mod Dropped
+mod LaidOut

@@ -1,0 +1,154 @@
+//! The map.
+
+ghost use Rattle.std.specs.Prelude.{◌≡◌, [], length, T, option_map, OnOk, OnErr, IsOk, IfOk, ◌+◌, ◌<◌, ◌^◌, Some};
+ghost use Rattle.std.specs.FinMap.Entries.{find, put, is_sorted};
+ghost use Rattle.byte_map.specs.Words.{bytes_cmp, bytes_in, first_of, next_in, without};
+
+use crate::block::Block;
+use crate::blocks::{insert, pair_at, place_above, search, set_value};
+use crate::drops::drop_range;
+use crate::pair::Pair;
+use crate::place::Place;
+use crate::walk::Walk;
+use std::alloc::{AllocError, Global};
+use std::marker::Model;
+
+/// A map from byte strings to byte strings, seen as the list of its pairs in the order of their keys: byte by byte,
+/// and a proper prefix is less.
+#[derive(Drop)]
+pub struct ByteMap {
+    alloc: Global,
+    blocks: Vec<Block>,
+    pairs: usize,
+    size: u64,
+}
+
+impl Model for ByteMap {
+    ghost use Rattle.byte_map.specs.Words.{Map};
+    ghost use Rattle.byte_map.specs.Blocks.{joined, IsLaidOut};
+
+    ghost Value = { Map };
+
+    ghost view = { λ a. joined a.blocks.items };
+
+    ghost invariant = { λ a. IsLaidOut a.blocks.items a.pairs a.size };
+}
+
+impl ByteMap {
+    /// The empty map. It takes no memory.
+    pub fn new(alloc: Global) -> ByteMap
+        ensures { result ≡ [] }
+    {
+        ByteMap {
+            alloc,
+            blocks: Vec::new(alloc),
+            pairs: 0,
+            size: 0,
+        }
+    }
+
+    /// How many pairs it has.
+    pub fn count(&self) -> usize
+        ensures count { result ≡ length self.now }
+        ensures sorted { T (is_sorted bytes_cmp self.now) }
+    {
+        self.pairs
+    }
+
+    /// The bytes of its keys and values.
+    pub fn bytes(&self) -> u64
+        ensures { result ≡ bytes_in self.now }
+    {
+        self.size
+    }
+
+    /// The value of a key.
+    pub fn get(&self, key: &[u8]) -> Option<&[u8]>
+        ensures value { option_map (λ value. value.now) result ≡ find bytes_cmp key.now self.now }
+        ensures sorted { T (is_sorted bytes_cmp self.now) }
+    {
+        match search(&self.blocks, key) {
+            Ok(place) => Some(self.blocks[place.block].at(place.index).value()),
+            Err(_) => None,
+        }
+    }
+
+    /// The pair with the least key.
+    pub fn first(&self) -> Option<(&[u8], &[u8])>
+        ensures { option_map (λ pair. (pair.0.now, pair.1.now)) result ≡ first_of self.now }
+    {
+        match pair_at(&self.blocks, Place { block: 0, index: 0 }) {
+            Some(pair) => Some((pair.key(), pair.value())),
+            None => None,
+        }
+    }
+
+    /// The pair with the least key above another.
+    pub fn next(&self, after: &[u8]) -> Option<(&[u8], &[u8])>
+        ensures { option_map (λ pair. (pair.0.now, pair.1.now)) result
+            ≡ next_in bytes_cmp after.now self.now }
+    {
+        let place = place_above(&self.blocks, after);
+        match pair_at(&self.blocks, place) {
+            Some(pair) => Some((pair.key(), pair.value())),
+            None => None,
+        }
+    }
+
+    /// A walk over all pairs, in the order of their keys.
+    pub fn walk(&self) -> Walk<'_>
+        ensures { result ≡ self.now }
+    {
+        Walk::over(&self.blocks)
+    }
+
+    /// Gives a key a value, in place of the one before. A value as long as the one before takes no memory. Where there
+    /// is no memory, or the pairs or their bytes would be 2^64 or more, the map stays as it was.
+    pub fn put(&mut self, key: &[u8], value: &[u8]) -> Result<(), AllocError>
+        ensures ok { OnOk result (self.new ≡ put bytes_cmp key.now value.now self.old) }
+        ensures err { OnErr result (self.new ≡ self.old) }
+        ensures in_place { option_map length (find bytes_cmp key.now self.old) ≡ Some (length value.now)
+            → IsOk result }
+    {
+        match search(&self.blocks, key) {
+            Ok(place) => {
+                let before = self.blocks[place.block].at(place.index).value().len() as u64;
+                let size = sum_of(self.size - before, value.len())?;
+                set_value(&mut self.blocks, self.alloc, place, value)?;
+                self.size = size;
+            }
+            Err(place) => {
+                let size = sum_of(sum_of(self.size, key.len())?, value.len())?;
+                let pairs = one_more(self.pairs)?;
+                let pair = Pair::new(self.alloc, key, value)?;
+                insert(&mut self.blocks, self.alloc, place, pair)?;
+                self.pairs = pairs;
+                self.size = size;
+            }
+        }
+        Ok(())
+    }
+
+    /// Drops the keys from one up to another, which stays. It takes no memory.
+    pub fn drop_range(&mut self, from: &[u8], to: &[u8])
+        ensures { self.new ≡ without from.now to.now self.old }
+    {
+        let dropped = drop_range(&mut self.blocks, from, to);
+        self.pairs -= dropped.count;
+        self.size -= dropped.bytes;
+    }
+}
+
+// An error where the sum is 2^64 or more.
+fn sum_of(size: u64, more: usize) -> Result<u64, AllocError>
+    ensures sum { IfOk result (λ sum. sum ≡ size + more) }
+    ensures fits { size + more < 2 ^ 64 → IsOk result }
+{
+    size.checked_add(more as u64).ok_or(AllocError)
+}
+
+fn one_more(count: usize) -> Result<usize, AllocError>
+    ensures { IfOk result (λ more. more ≡ count + 1) }
+{
+    count.checked_add(1).ok_or(AllocError)
+}

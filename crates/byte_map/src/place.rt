@@ -1,0 +1,8 @@
+//! Places in a list of blocks.
+
+/// A block, by its number, and an index in it.
+#[derive(Clone, Copy, Debug, PartialEq, Eq, PartialOrd, Ord)]
+pub struct Place {
+    pub block: usize,
+    pub index: usize,
+}
