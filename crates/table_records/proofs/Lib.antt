@@ -1,0 +1,7 @@
+pub mod Belongs
+pub mod Front
+pub mod ListBytes
+pub mod SettingsBytes
+pub mod SettingsRead
+pub mod Spelled
+pub mod TextLists

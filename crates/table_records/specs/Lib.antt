@@ -1,0 +1,12 @@
+pub mod Codecs
+pub mod Keys
+pub mod Orders
+pub mod Results
+pub mod Texts
+pub mod Settings
+pub mod Values
+pub mod Tables
+pub mod Laws
+pub mod Next
+pub mod Changes
+pub mod WellFormed

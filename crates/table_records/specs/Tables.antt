@@ -1,0 +1,100 @@
+-- The tables. A further table is a row here, a row of what is well formed, and its code.
+use Rattle.std.specs.Prelude.{◌<◌, ◌+◌, ℕ, List}
+use Rattle.std.proofs.Common.{arith}
+use Rattle.std.specs.Ordering.{nat_cmp}
+use Rattle.std.specs.Cmp.{nat_cmp_total}
+use Rattle.std.specs.Cmp.Lexicographic.{nat_list_cmp_total}
+use Rattle.byte_map.specs.Words.{bytes_cmp}
+use Rattle.table_records.specs.declared.records.VolumeRecord.{VolumeRecord}
+use Rattle.table_records.specs.declared.records.FileRecord.{FileRecord}
+use Rattle.table_records.specs.declared.records.Extent.{Extent}
+use Rattle.table_records.specs.declared.records.ResultRecord.{ResultRecord}
+use Rattle.table_records.specs.declared.jobs.JobKind.{JobKind}
+use Rattle.table_records.specs.declared.settings.Settings.{Settings}
+use Rattle.table_records.specs.Codecs.{Codec}
+use Rattle.table_records.specs.Keys.{number_in, pair_in, nothing_in, all_in, kind_in, single_key, number_key, pair_key, bytes_key, kind_key, single_cmp, pair_cmp, kind_cmp}
+use Rattle.table_records.specs.Orders.{number_ordered, pair_ordered, pair_total, nothing_ordered, single_total, all_ordered, kind_ordered, kind_total, behind_numbered, behind_ordered}
+use Rattle.table_records.specs.Settings.{settings_or_none, is_settings}
+use Rattle.table_records.specs.Values.{has_length, volume_in, id_in, file_in, extent_in, result_in}
+
+pub some_positive : (n : ℕ) → 0 < n + 1
+some_positive n = omega arith
+
+abbrev pub volume_codec : Codec (Unit {0}) VolumeRecord
+volume_codec = record {
+  number = 1;
+  cmp = single_cmp;
+  read_key = single_key 1;
+  read_value = volume_in;
+  is_value = has_length 12;
+  positive = some_positive 0;
+  total = single_total;
+  ordered = behind_ordered 1 nothing_in single_cmp nothing_ordered;
+  numbered = behind_numbered 1 nothing_in;
+}
+
+abbrev pub name_codec : Codec (List ℕ) ℕ
+name_codec = record {
+  number = 2;
+  cmp = bytes_cmp;
+  read_key = bytes_key 2;
+  read_value = id_in;
+  is_value = has_length 8;
+  positive = some_positive 1;
+  total = nat_list_cmp_total;
+  ordered = behind_ordered 2 all_in bytes_cmp all_ordered;
+  numbered = behind_numbered 2 all_in;
+}
+
+abbrev pub file_codec : Codec ℕ FileRecord
+file_codec = record {
+  number = 3;
+  cmp = nat_cmp;
+  read_key = number_key 3 8;
+  read_value = file_in;
+  is_value = has_length 24;
+  positive = some_positive 2;
+  total = nat_cmp_total;
+  ordered = behind_ordered 3 (number_in 8) nat_cmp (number_ordered 8);
+  numbered = behind_numbered 3 (number_in 8);
+}
+
+-- the key is a file and the number of a block of it
+abbrev pub extent_codec : Codec (ℕ × ℕ) Extent
+extent_codec = record {
+  number = 4;
+  cmp = pair_cmp;
+  read_key = pair_key 4 8 4;
+  read_value = extent_in;
+  is_value = has_length 6;
+  positive = some_positive 3;
+  total = pair_total;
+  ordered = behind_ordered 4 (pair_in 8 4) pair_cmp (pair_ordered 8 4);
+  numbered = behind_numbered 4 (pair_in 8 4);
+}
+
+abbrev pub result_codec : Codec JobKind ResultRecord
+result_codec = record {
+  number = 10;
+  cmp = kind_cmp;
+  read_key = kind_key 10;
+  read_value = result_in;
+  is_value = has_length 9;
+  positive = some_positive 9;
+  total = kind_total;
+  ordered = behind_ordered 10 kind_in kind_cmp kind_ordered;
+  numbered = behind_numbered 10 kind_in;
+}
+
+abbrev pub settings_codec : Codec (Unit {0}) Settings
+settings_codec = record {
+  number = 9;
+  cmp = single_cmp;
+  read_key = single_key 9;
+  read_value = settings_or_none;
+  is_value = is_settings;
+  positive = some_positive 8;
+  total = single_total;
+  ordered = behind_ordered 9 nothing_in single_cmp nothing_ordered;
+  numbered = behind_numbered 9 nothing_in;
+}

@@ -1,0 +1,31 @@
+//! The tables of a volume, as a journal's map from byte strings to byte strings holds them.
+#![tactic(auto)]
+
+mod jobs;
+pub mod laws;
+mod limits;
+mod lists;
+mod memory;
+mod names;
+mod numbers;
+mod records;
+mod settings;
+mod table;
+mod tables;
+#[cfg(test)]
+mod tests;
+mod texts;
+mod well_formed;
+
+pub use jobs::{JobKind, JobResult};
+pub use limits::{
+    MOST_KEY_BYTES, MOST_LIST_BYTES, MOST_NAME_BYTES, MOST_NAME_KEY_BYTES, MOST_VALUE_BYTES,
+};
+pub use memory::Memory;
+pub use names::Names;
+pub use records::{Extent, FileRecord, ResultRecord, VolumeRecord};
+pub use settings::{SETTINGS_KEY, Settings};
+pub use table::Table;
+pub use tables::{Extents, Files, Results, Volume};
+pub use texts::{Texts, TextsFault};
+pub use well_formed::{is_pair_of, is_well_formed};
