@@ -1,0 +1,136 @@
+-- The rules of a volume's tables, each a fact of its own.
+use Rattle.std.specs.Prelude.{◌≡◌, ◌⊎◌, ◌≤◌, ◌<◌, ◌+◌, ◌*◌, ◌-◌, ◌^◌, ℕ, true, List, length, Option, Some, None, IsSome, IsSomeAnd, ◌==◌}
+use Rattle.std.specs.List.{filter}
+use Rattle.std.specs.Ordering.{nat_cmp}
+use Rattle.std.specs.FinMap.{find}
+use Rattle.byte_map.specs.Words.{Map}
+use Rattle.plain_volume.specs.Volume.{is_lawful}
+use Rattle.plain_volume.specs.declared.limits.TheConstants.{MOST_FILES, MOST_BYTES_OF_A_FILE}
+use Rattle.table_records.specs.Keys.{single_cmp, kind_cmp}
+use Rattle.table_records.specs.WellFormed.{AllWellFormed}
+use Rattle.table_records.specs.declared.jobs.JobKind.{JobKind}
+use Rattle.table_records.specs.declared.records.VolumeRecord.{VolumeRecord}
+use Rattle.table_records.specs.declared.records.FileRecord.{FileRecord}
+use Rattle.table_records.specs.declared.records.Extent.{Extent}
+use Rattle.table_records.specs.declared.records.ResultRecord.{ResultRecord}
+use Rattle.table_records.specs.declared.settings.Settings.{Settings}
+use Rattle.volume_inside.specs.Typed.{Typed, FileBlock, typed_of}
+use Rattle.volume_inside.specs.Layout.{IsDataCluster}
+use Rattle.volume_inside.specs.Entries.{Each}
+pub use Rattle.volume_inside.specs.Lists.{IsOut, IsOnce}
+use Rattle.volume_inside.specs.Named.{clusters_of}
+
+-- ---- the records that are always there
+
+pub record IsVolumeRecord (v : VolumeRecord) : Type 0 where
+  pub version : v.version ≡ 1
+  pub some_id : 1 ≤ v.next_id
+  pub last_id : v.next_id ≤ 2 ^ 48 - 1
+
+pub record AreSettings (s : Settings) : Type 0 where
+  pub least_size : 32768 ≤ s.minimum_size
+  pub most_size : s.minimum_size ≤ 1073741824
+  pub most_days : s.age_days ≤ 36500
+  pub least_threshold : 2 ≤ s.threshold
+  pub most_threshold : s.threshold ≤ 2 ^ 32 - 1
+
+pub record IsResultRecord (r : ResultRecord) : Type 0 where
+  pub known : r.result ≤ 6
+
+pub record RecordsHold (t : Typed) : Type 0 where
+  pub volume : IsSomeAnd (find single_cmp tt t.volume) IsVolumeRecord
+  pub settings : IsSomeAnd (find single_cmp tt t.settings) AreSettings
+  pub results : (kind : JobKind) → IsSomeAnd (find kind_cmp kind t.results) IsResultRecord
+
+abbrev pub id_after : Option VolumeRecord → ℕ
+id_after None = 0
+id_after (Some v) = v.next_id
+
+-- the id that is drawn next
+abbrev pub next_id_of : Typed → ℕ
+next_id_of t = id_after (find single_cmp tt t.volume)
+
+-- ---- names
+
+-- a name is lawful, and its file is there
+pub record NameHolds (t : Typed) (name : List ℕ) (id : ℕ) : Type 0 where
+  pub lawful : is_lawful name ≡ true
+  pub names_file : IsSome (find nat_cmp id t.files)
+
+-- the names of a file
+abbrev pub names_of : ℕ → Typed → List (List ℕ × ℕ)
+names_of id t = filter (λ e. e.1 == id) t.names
+
+abbrev pub IsNamedOnce : Typed → ℕ → FileRecord → Type 0
+IsNamedOnce t id file = length (names_of id t) ≡ 1
+
+pub record NamesHold (t : Typed) : Type 0 where
+  pub names : Each (NameHolds t) t.names
+  pub once : Each (IsNamedOnce t) t.files
+  pub few : length t.names ≤ MOST_FILES
+
+-- ---- files
+
+-- an id that was drawn, a length that a file may have, and no base
+pub record FileHolds (t : Typed) (id : ℕ) (file : FileRecord) : Type 0 where
+  pub some_id : 1 ≤ id
+  pub drawn : id < next_id_of t
+  pub short : file.length ≤ MOST_BYTES_OF_A_FILE
+  pub no_map : file.map_row ≡ 0
+  pub no_cover : file.covers ≡ 0
+
+abbrev pub FilesHold : Typed → Type 0
+FilesHold t = Each (FileHolds t) t.files
+
+-- ---- extents
+
+-- the bytes of a block lie in the file, which is there
+abbrev pub LiesIn : FileBlock → Extent → Option FileRecord → Type 0
+LiesIn k e None = ⊥
+LiesIn k e (Some file) = 4096 * k.1 + e.valid ≤ file.length
+
+pub record ExtentHolds (n : ℕ) (t : Typed) (k : FileBlock) (e : Extent) : Type 0 where
+  pub in_file : LiesIn k e (find nat_cmp k.0 t.files)
+  pub some_bytes : 1 ≤ e.valid
+  pub in_cluster : e.valid ≤ 4096
+  pub in_data : IsDataCluster n e.cluster
+
+abbrev pub ExtentsHold : ℕ → Typed → Type 0
+ExtentsHold n t = Each (ExtentHolds n t) t.extents
+
+-- ---- clusters
+
+-- no cluster is named twice
+abbrev pub ClustersHold : Typed → Type 0
+ClustersHold t = IsOnce (clusters_of t)
+
+-- ---- all rules
+
+-- the rules of the tables of a volume of n clusters
+pub record RulesHold (n : ℕ) (t : Typed) : Type 0 where
+  pub records : RecordsHold t
+  pub names : NamesHold t
+  pub files : FilesHold t
+  pub extents : ExtentsHold n t
+  pub clusters : ClustersHold t
+
+-- The map is one of a volume of n clusters: its pairs are well formed, and its tables meet the rules.
+pub record IsVolume (n : ℕ) (m : Map) : Type 0 where
+  pub spelled : AllWellFormed m
+  pub rules : RulesHold n (typed_of m)
+
+-- ---- the least rule that is broken
+
+-- the rule of this number is broken and is k, or it holds and k is a later one
+abbrev pub Broken : ℕ → ℕ → Type 0 → Type 0 → Type 0
+Broken k number rule later = ((k ≡ number) × (rule → ⊥)) ⊎ (rule × later)
+
+-- Of the rules in their order, k is the first one that does not hold. Rules of tables that no volume has yet have the
+-- numbers between.
+abbrev pub IsLeastBroken : ℕ → Map → ℕ → Type 0
+IsLeastBroken n m k =
+    Broken k 1 (AllWellFormed m × RecordsHold (typed_of m))
+    (Broken k 2 (NamesHold (typed_of m))
+    (Broken k 3 (FilesHold (typed_of m))
+    (Broken k 5 (ExtentsHold n (typed_of m))
+    (Broken k 10 (ClustersHold (typed_of m)) ⊥))))

@@ -1,0 +1,60 @@
+//! The rules on one record at a time.
+ghost use Rattle.std.specs.Prelude.{◌≡◌, ◌↔◌, IsTrue};
+ghost use Rattle.std.specs.Ordering.{nat_cmp};
+ghost use Rattle.std.specs.FinMap.{find};
+ghost use Rattle.volume_inside.specs.Typed.{Typed};
+ghost use Rattle.volume_inside.specs.Rules.{IsVolumeRecord, AreSettings, IsResultRecord, FileHolds, ExtentHolds, next_id_of};
+
+use crate::layout::is_data_cluster;
+use plain_volume::limits::MOST_BYTES_OF_A_FILE;
+use table_records::{Extent, FileRecord, ResultRecord, Settings, VolumeRecord};
+
+/// Whether the record of the volume has a version that is known, and a next id that may be drawn.
+pub fn volume_record_holds(volume: VolumeRecord) -> bool
+    ensures { IsTrue result ↔ IsVolumeRecord volume }
+{
+    volume.version == 1 && volume.next_id >= 1 && volume.next_id <= 0xffff_ffff_ffff
+}
+
+/// Whether settings are in their ranges.
+pub fn settings_hold(settings: &Settings) -> bool
+    ensures { IsTrue result ↔ AreSettings settings.now }
+{
+    let size = settings.minimum_size >= 32_768 && settings.minimum_size <= 1_073_741_824;
+    size && settings.age_days <= 36_500 && settings.threshold >= 2
+}
+
+/// Whether the number of a result is known.
+pub fn result_holds(end: ResultRecord) -> bool
+    ensures { IsTrue result ↔ IsResultRecord end }
+{
+    end.result <= 6
+}
+
+/// Whether a file meets the rules of files, in tables that draw `next_id` next.
+pub fn file_holds(next_id: u64, id: u64, file: FileRecord) -> bool
+    ensures { (t : Typed) → next_id_of t ≡ next_id → (IsTrue result ↔ FileHolds t id file) }
+{
+    let drawn = id >= 1 && id < next_id;
+    drawn && file.length <= MOST_BYTES_OF_A_FILE && file.map_row == 0 && file.covers == 0
+}
+
+/// Whether an extent meets the rules of extents, in tables of an image of so many clusters that have this record of
+/// its file, if it is there.
+pub fn extent_holds(
+    clusters: u32,
+    file: Option<FileRecord>,
+    key: (u64, u32),
+    extent: Extent,
+) -> bool
+    ensures { (t : Typed) → find nat_cmp key.0 t.files ≡ file → (IsTrue result ↔ ExtentHolds clusters t key extent) }
+{
+    match file {
+        Some(file) => {
+            let end = 4096 * key.1 as u64 + extent.valid as u64;
+            let whole = extent.valid >= 1 && extent.valid <= 4096;
+            whole && end <= file.length && is_data_cluster(clusters, extent.cluster)
+        }
+        None => false,
+    }
+}
