@@ -12,8 +12,10 @@ pub fn each_cluster_has_a_state()
 /// No cluster is in two of the three sets.
 pub fn the_states_are_disjoint()
     ensures free_used { (states : List State) (c : ℕ) → ¬ (IsIn states c State.Free × IsIn states c State.Used) }
-    ensures free_deferred { (states : List State) (c : ℕ) → ¬ (IsIn states c State.Free × IsIn states c State.Deferred) }
-    ensures used_deferred { (states : List State) (c : ℕ) → ¬ (IsIn states c State.Used × IsIn states c State.Deferred) }
+    ensures free_deferred { (states : List State) (c : ℕ)
+        → ¬ (IsIn states c State.Free × IsIn states c State.Deferred) }
+    ensures used_deferred { (states : List State) (c : ℕ)
+        → ¬ (IsIn states c State.Used × IsIn states c State.Deferred) }
 {}
 
 /// The counts of the three states make up the number of all clusters.

@@ -96,7 +96,8 @@ pub fn next_cut(rest: &[u8], rest_len: u64) -> Cut
     requires prefix { length rest.now ≤ rest_len }
     ensures at { IfAt result (λ p. Decides rest.now rest_len p) }
     ensures size { IfAt result (λ p. (0 < p) × (p ≤ 131072) × (p ≤ length rest.now)) }
-    ensures need { IsNeedMore result ↔ ((length rest.now < min rest_len 131072) × NoMatch 16 rest.now 32768 (length rest.now)) }
+    ensures need { IsNeedMore result
+        ↔ ((length rest.now < min rest_len 131072) × NoMatch 16 rest.now 32768 (length rest.now)) }
 {
     scan(rest).cut(rest, rest_len)
 }

@@ -14,8 +14,10 @@ pub fn at_most_one_cut()
 /// Whatever follows a window that decides a piece, the longer window decides the same piece. A window that
 /// is not enough decides none.
 pub fn windows_agree()
-    ensures longer { (start more : List ℕ) (n p : ℕ) → length start + length more ≤ n → Decides start n p → Decides (start ++ more) n p }
-    ensures shorter { (start : List ℕ) (n : ℕ) → length start < min n 131072 → NoMatch 16 start 32768 (length start) → ¬ (IsEnough start n) }
+    ensures longer { (start more : List ℕ) (n p : ℕ) → length start + length more ≤ n → Decides start n p
+        → Decides (start ++ more) n p }
+    ensures shorter { (start : List ℕ) (n : ℕ) → length start < min n 131072 → NoMatch 16 start 32768 (length start)
+        → ¬ (IsEnough start n) }
 {}
 
 /// Cells have one list of pieces at most.
@@ -26,14 +28,17 @@ pub fn at_most_one_list_of_pieces()
 /// The pieces of a file of which no cell is lost cover it. Else they end before the first lost cell.
 pub fn pieces_cover_the_file()
     ensures whole { (bytes : List ℕ) → known_start (map (λ b. Some b) bytes) ≡ bytes }
-    ensures covered { (cells : List (Option ℕ)) (ns : List ℕ) → length (known_start cells) ≡ length cells → IsPieces cells ns → sum ns ≡ length cells }
+    ensures covered { (cells : List (Option ℕ)) (ns : List ℕ) → length (known_start cells) ≡ length cells
+        → IsPieces cells ns → sum ns ≡ length cells }
     ensures known { (cells : List (Option ℕ)) (ns : List ℕ) → IsPieces cells ns → sum ns ≤ length (known_start cells) }
 {}
 
 /// The sizes of pieces: only the last one of a file may be short.
 pub fn pieces_have_their_sizes()
-    ensures size { (cells : List (Option ℕ)) (ns : List ℕ) → IsPieces cells ns → (i : ℕ) → i < length ns → (0 < slice_index ns i) × (slice_index ns i ≤ 131072) }
-    ensures least { (cells : List (Option ℕ)) (ns : List ℕ) → IsPieces cells ns → (i : ℕ) → i + 1 < length ns → 32768 ≤ slice_index ns i }
+    ensures size { (cells : List (Option ℕ)) (ns : List ℕ) → IsPieces cells ns → (i : ℕ) → i < length ns
+        → (0 < slice_index ns i) × (slice_index ns i ≤ 131072) }
+    ensures least { (cells : List (Option ℕ)) (ns : List ℕ) → IsPieces cells ns → (i : ℕ) → i + 1 < length ns
+        → 32768 ≤ slice_index ns i }
 {}
 
 /// The prints of some windows, as they are known from outside.

@@ -155,7 +155,8 @@ impl Seen {
 
     /// Where a rest without a full match is cut that is too long for one piece.
     fn regression(self) -> usize
-        ensures { result ≡ unwrap_or (option_or (option_or (option_or self.fifteen self.fourteen) self.thirteen) self.twelve) 131072 }
+        ensures { result ≡ unwrap_or
+            (option_or (option_or (option_or self.fifteen self.fourteen) self.thirteen) self.twelve) 131072 }
     {
         self.fifteen
             .or(self.fourteen)
@@ -172,7 +173,8 @@ impl Seen {
         requires all { IsNone self.full → Sees rest.now 32767 (min (length rest.now) 131072) self }
         ensures at { IfAt result (λ p. Decides rest.now rest_len p) }
         ensures size { IfAt result (λ p. (0 < p) × (p ≤ 131072) × (p ≤ length rest.now)) }
-        ensures need { IsNeedMore result ↔ ((length rest.now < min rest_len 131072) × NoMatch 16 rest.now 32768 (length rest.now)) }
+        ensures need { IsNeedMore result
+            ↔ ((length rest.now < min rest_len 131072) × NoMatch 16 rest.now 32768 (length rest.now)) }
     {
         let given = rest.len();
         if let Some(place) = self.full {
