@@ -1,6 +1,7 @@
 // Cutting bytes into pieces, by the fast body and by the plain one.
 ghost use Rattle.std.specs.Prelude.{◌≤◌};
 
+use crate::random::add_random;
 use crate::report::rate;
 use regression_chunker::{Cut, next_cut, next_cut_plain};
 use std::alloc::{AllocError, Global};
@@ -96,16 +97,9 @@ fn count_pieces(bytes: &[u8], body: Body) -> u64 {
     pieces
 }
 
-/// Pseudo-random bytes (xorshift64, Marsaglia 2003).
 fn random_bytes(alloc: Global, count: usize) -> Result<Vec<u8>, AllocError> {
     let mut bytes = Vec::with_capacity(alloc, count)?;
-    let mut state: u64 = 88172645463325252;
-    for _ in 0..count / 8 {
-        state ^= state << 13;
-        state ^= state >> 7;
-        state ^= state << 17;
-        bytes.extend_from_slice(&state.to_le_bytes())?;
-    }
+    add_random(&mut bytes, 88172645463325252, count / 8)?;
     Ok(bytes)
 }
 

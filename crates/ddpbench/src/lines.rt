@@ -1,6 +1,7 @@
 // The path of a script: lines and payloads in, answers out.
 ghost use Rattle.std.specs.Prelude.{◌≤◌, ◌<◌, ◌*◌, ◌^◌};
 
+use crate::random::add_random;
 use crate::report::rate;
 use cmdlet_line::Words;
 use ddpsh::run;
@@ -76,15 +77,9 @@ fn script_of(alloc: Global, pieces: u64) -> Result<Vec<u8>, AllocError>
     Ok(script)
 }
 
-/// Adds a payload of pseudo-random bytes (xorshift64, Marsaglia 2003) and its newline.
-fn add_payload(script: &mut Vec<u8>, seed: u64) -> Result<(), AllocError> {
-    let mut state = seed ^ 0x9e37_79b9_7f4a_7c15;
-    for _ in 0..PIECE / 8 {
-        state ^= state << 13;
-        state ^= state >> 7;
-        state ^= state << 17;
-        script.extend_from_slice(&state.to_le_bytes())?;
-    }
+/// Adds a payload of random bytes and its newline.
+fn add_payload(script: &mut Vec<u8>, number: u64) -> Result<(), AllocError> {
+    add_random(script, number ^ 0x9e37_79b9_7f4a_7c15, PIECE as usize / 8)?;
     script.push(b'\n')?;
     Ok(())
 }

@@ -7,6 +7,7 @@
 mod cut;
 mod index;
 mod lines;
+mod random;
 mod report;
 mod space;
 
