@@ -29,9 +29,11 @@ total_length (entry ∷ entries) = entry.length + total_length entries
 -- the entry that covers an offset of the file, and the offset in its piece
 abbrev pub place_at : List Entry → ℕ → Option (Entry × ℕ)
 place_at [] offset = None
-place_at (entry ∷ entries) offset = if nat_lt offset entry.length then Some (entry, offset) else place_at entries (offset - entry.length)
+place_at (entry ∷ entries) offset =
+    if nat_lt offset entry.length then Some (entry, offset) else place_at entries (offset - entry.length)
 
 -- an offset of the file lies in the piece of an entry, so many bytes behind its begin
 abbrev pub Covers : List Entry → ℕ → Entry → ℕ → Type 0
 Covers entries offset entry inside =
-    (front : List Entry) × (rest : List Entry) × (entries ≡ front ++ entry ∷ rest) × (offset ≡ total_length front + inside) × (inside < entry.length)
+    (front : List Entry) × (rest : List Entry) × (entries ≡ front ++ entry ∷ rest)
+    × (offset ≡ total_length front + inside) × (inside < entry.length)

@@ -25,23 +25,28 @@ pub fn pieces_of_joined_lists()
     ensures sum { (front back : List Entry) → total_length (front ++ back) ≡ total_length front + total_length back }
     ensures front { (front back : List Entry) (offset : ℕ) → offset < total_length front
         → place_at (front ++ back) offset ≡ place_at front offset }
-    ensures back { (front back : List Entry) (offset : ℕ) → place_at (front ++ back) (total_length front + offset) ≡ place_at back offset }
+    ensures back { (front back : List Entry) (offset : ℕ)
+        → place_at (front ++ back) (total_length front + offset) ≡ place_at back offset }
 {}
 
 /// Each offset below the sum of the lengths lies in the piece that `place_at` names, and in no other.
 pub fn each_offset_has_its_entry()
     ensures inside { (entries : List Entry) (offset : ℕ) → offset < total_length entries
-        → (entry : Entry) × (inside : ℕ) × (place_at entries offset ≡ Some (entry, inside)) × Covers entries offset entry inside }
+        → (entry : Entry) × (inside : ℕ) × (place_at entries offset ≡ Some (entry, inside))
+        × Covers entries offset entry inside }
     ensures only { (entries : List Entry) (offset : ℕ) (entry : Entry) (inside : ℕ) → Covers entries offset entry inside
         → place_at entries offset ≡ Some (entry, inside) }
-    ensures outside { (entries : List Entry) (offset : ℕ) → total_length entries ≤ offset → place_at entries offset ≡ None }
+    ensures outside { (entries : List Entry) (offset : ℕ) → total_length entries ≤ offset
+        → place_at entries offset ≡ None }
 {}
 
 /// A walk accepts a list of entries exactly where each of them is lawful, and then it knows their number and the
 /// sum of their lengths.
 pub fn walks_take_lawful_lists()
     ensures walked { (total : ℕ) (entries : List Entry) (walk : Walked) → Walks (walk_of total) entries walk
-        → All IsLawful entries × (walk ≡ record { total = total; count = length entries; covered = total_length entries }) }
+        → All IsLawful entries
+        × (walk ≡ record { total = total; count = length entries; covered = total_length entries }) }
     ensures accepted { (total : ℕ) (entries : List Entry) → All IsLawful entries
-        → Walks (walk_of total) entries (record { total = total; count = length entries; covered = total_length entries }) }
+        → Walks (walk_of total) entries
+        (record { total = total; count = length entries; covered = total_length entries }) }
 {}
