@@ -1,0 +1,14 @@
+pub mod Records
+pub mod Spelled
+pub mod Short
+pub mod Meta
+pub mod Group
+pub mod Ready
+pub mod Checkpoint
+pub mod Turn
+pub mod Format
+pub mod Stream
+pub mod Log
+pub mod Reading
+pub mod Opened
+pub mod Client

@@ -1,0 +1,31 @@
+// The numbers of the journal, in bytes where not said.
+
+/// The most bytes of records that may be staged between two commits.
+pub const MOST_STAGED: usize = 65_536;
+
+/// The bytes of a checkpoint before its body, and so of the least half.
+pub const LEAST_HALF: u64 = 45;
+
+// A group before its body: gate, length and digest.
+pub(crate) const GROUP_HEAD: u64 = 37;
+
+// A group's length and digest, which stand between its gate and its body.
+pub(crate) const GROUP_FRONT: usize = 36;
+
+// A record before its two strings: tag and two lengths.
+pub(crate) const RECORD_HEAD: u64 = 5;
+
+// The bytes that the buffer of the staged records has room for: those before them, and a closed gate behind them.
+pub(crate) const STAGED_ROOM: usize = 65_573;
+
+// The bytes that a checkpoint's buffer has room for.
+pub(crate) const STREAM_ROOM: usize = 65_536;
+
+// The last epoch, 2^63 - 1.
+pub(crate) const LAST_EPOCH: u64 = 9_223_372_036_854_775_807;
+
+// The tag of a record that sets a pair.
+pub(crate) const PUT: u8 = 1;
+
+// The tag of a record that drops a range of keys.
+pub(crate) const DROP_RANGE: u8 = 2;
