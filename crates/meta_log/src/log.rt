@@ -74,6 +74,13 @@ impl<D: Disk> MetaLog<D> {
         self.staged.len() - 36
     }
 
+    /// The map now, with all that is staged.
+    pub fn pairs(&self) -> &ByteMap
+        ensures { result.now ≡ now_of self.now }
+    {
+        &self.map
+    }
+
     /// Hands the disk back. What is staged is lost.
     pub fn into_disk(self) -> D
         ensures { result ≡ self.disk }
