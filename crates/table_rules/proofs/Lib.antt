@@ -1,0 +1,4 @@
+pub mod Eaches
+pub mod Kept
+pub mod Times
+pub mod Marking

@@ -1,0 +1,24 @@
+use Rattle.std.proofs.Common.{◌≡◌, length}
+use Rattle.std.specs.Prelude.{◌↔◌}
+use Rattle.table_records.specs.Codecs.{typed}
+use Rattle.table_records.specs.Tables.{extent_codec}
+use Rattle.volume_inside.specs.Layout.{AreData, first_data_cluster, data_clusters}
+use Rattle.volume_inside.specs.Named.{extent_clusters}
+use Rattle.table_rules.specs.Marks.{CanMark, marked}
+use Rattle.table_rules.proofs.clusters.mark_extents.Given as goal
+
+-- the clusters that are left can be marked where all could, and give the same states
+abbrev pub invariant-loop-key : goal.invariant-loop-key
+invariant-loop-key l =
+    let first = first_data_cluster l.clusters in
+    let all = extent_clusters (typed extent_codec l.map) in
+    let left = extent_clusters (typed extent_codec l.walk) in
+    record {
+      can : CanMark first l.space left ↔ CanMark first l.fn.space all;
+      same : marked first left l.space ≡ marked first all l.fn.space;
+      size : length l.space ≡ data_clusters l.clusters;
+      are : AreData l.clusters left;
+    }
+
+abbrev pub decreases-loop-key : goal.decreases-loop-key
+decreases-loop-key l = length l.walk

@@ -1,0 +1,102 @@
+//! Rules on one entry of a table at a time.
+
+ghost use Rattle.std.specs.Prelude.{◌≡◌, ◌↔◌, IsTrue, IsSome, ℕ};
+ghost use Rattle.std.specs.Ordering.{nat_cmp};
+ghost use Rattle.std.specs.FinMap.{find};
+ghost use Rattle.table_records.specs.Tables.{name_codec, file_codec, extent_codec};
+ghost use Rattle.volume_inside.specs.Entries.{Each};
+ghost use Rattle.volume_inside.specs.Typed.{typed_of};
+ghost use Rattle.volume_inside.specs.Rules.{NameHolds, FileHolds, ExtentHolds, FilesHold, ExtentsHold, next_id_of};
+ghost use Rattle.table_rules.specs.Pairs.{PairMeets};
+
+use crate::lookup::get;
+use crate::pairs::{PairRule, each};
+use byte_map::ByteMap;
+use plain_volume::name_is_lawful;
+use table_records::{Extents, Files, Names, Table};
+use volume_inside::{extent_holds, file_holds};
+
+/// A name is lawful, and its file is there.
+#[derive(Drop)]
+struct NameRule<'a> {
+    map: &'a ByteMap,
+}
+
+impl<'a> PairRule for NameRule<'a> {
+    ghost meets = { λ rule. PairMeets name_codec (NameHolds (typed_of rule.map.now)) };
+
+    fn holds(&self, key: &[u8], value: &[u8]) -> bool {
+        match Names::read_key(key) {
+            Some(name) => names_file(self.map, name, Names::read_value(value)),
+            None => true,
+        }
+    }
+}
+
+fn names_file(map: &ByteMap, name: &[u8], id: u64) -> bool
+    ensures { IsTrue result ↔ NameHolds (typed_of map.now) name.now id }
+{
+    name_is_lawful(name) && get::<Files>(map, id).is_some()
+}
+
+/// Whether each name is lawful and its file is there.
+pub(crate) fn names_are_lawful(map: &ByteMap) -> bool
+    ensures { IsTrue result ↔ Each (NameHolds (typed_of map.now)) (typed_of map.now).names }
+{
+    each(map, &NameRule { map })
+}
+
+/// A file meets the rule of files, where this id is drawn next.
+#[derive(Drop)]
+struct FileRule<'a> {
+    map: &'a ByteMap,
+    next_id: u64,
+    ghost drawn: { next_id_of (typed_of map.now) ≡ next_id },
+}
+
+impl<'a> PairRule for FileRule<'a> {
+    ghost meets = { λ rule. PairMeets file_codec (FileHolds (typed_of rule.map.now)) };
+
+    fn holds(&self, key: &[u8], value: &[u8]) -> bool {
+        match Files::read_key(key) {
+            Some(id) => file_holds(self.next_id, id, Files::read_value(value)),
+            None => true,
+        }
+    }
+}
+
+/// Whether the files meet their rule, in tables that draw `next_id` next.
+pub(crate) fn files_hold(map: &ByteMap, next_id: u64) -> bool
+    requires { next_id_of (typed_of map.now) ≡ next_id }
+    ensures { IsTrue result ↔ FilesHold (typed_of map.now) }
+{
+    each(map, &FileRule { map, next_id })
+}
+
+/// An extent meets the rule of extents, in an image of so many clusters.
+#[derive(Drop)]
+struct ExtentRule<'a> {
+    map: &'a ByteMap,
+    clusters: u32,
+}
+
+impl<'a> PairRule for ExtentRule<'a> {
+    ghost meets = { λ rule. PairMeets extent_codec (ExtentHolds rule.clusters (typed_of rule.map.now)) };
+
+    fn holds(&self, key: &[u8], value: &[u8]) -> bool {
+        match Extents::read_key(key) {
+            Some(key) => {
+                let file = get::<Files>(self.map, key.0);
+                extent_holds(self.clusters, file, key, Extents::read_value(value))
+            }
+            None => true,
+        }
+    }
+}
+
+/// Whether the extents meet their rule, in an image of so many clusters.
+pub(crate) fn extents_hold(map: &ByteMap, clusters: u32) -> bool
+    ensures { IsTrue result ↔ ExtentsHold clusters (typed_of map.now) }
+{
+    each(map, &ExtentRule { map, clusters })
+}
