@@ -1,0 +1,193 @@
+-- What was found in the tables of an image makes the tables in memory.
+use Rattle.std.specs.Prelude.{◌≡◌, ◌≢◌, ◌⊎◌, ◌+◌, ◌-◌, ◌&&◌, ◌||◌, ℕ, Bool, true, false, T, List, [], ◌∷◌, Option, Some, IsSomeAnd, IsTrue, Err, refl}
+use Rattle.std.proofs.Common.{sym, ◌∙◌, ap, subst, inl, inr, arith}
+use Rattle.std.specs.declared.cmp.Ordering.TheVariants.{Less, Equal, Greater}
+use Rattle.std.specs.FinMap.Entries.{find, is_sorted, same_entries}
+use Rattle.byte_map.specs.Words.{Map, bytes_cmp}
+use Rattle.cluster_space.specs.declared.state.State.{State}
+use Rattle.cluster_space.specs.declared.state.State.TheVariants.{Free, Used, Deferred}
+use Rattle.cluster_space.specs.States.{IsIn}
+use Rattle.table_records.specs.Codecs.{Codec, typed, IsPairOf}
+use Rattle.table_records.specs.Keys.{single_cmp, kind_cmp}
+use Rattle.table_records.specs.Next.{sorted_typed}
+use Rattle.table_records.specs.Orders.{single_total, kind_total}
+use Rattle.table_records.specs.Tables.{volume_codec, name_codec, file_codec, extent_codec, settings_codec, result_codec}
+use Rattle.table_records.specs.WellFormed.{IsWellFormed, AllWellFormed}
+use Rattle.table_records.specs.declared.jobs.JobKind.{JobKind}
+use Rattle.table_records.specs.declared.jobs.JobKind.TheVariants.{Optimization, GarbageCollection, Scrubbing, Unoptimization}
+use Rattle.table_records.specs.declared.records.ResultRecord.{ResultRecord}
+use Rattle.table_rules.specs.Found.{volume_record, AreRecordsOf, result_of}
+use Rattle.table_rules.specs.Marks.{AllUsed, IsFilled}
+use Rattle.table_rules.specs.declared.records.Records.{Records}
+use Rattle.volume_inside.specs.Layout.{first_data_cluster}
+use Rattle.volume_inside.specs.Lists.{IsOut}
+use Rattle.volume_inside.specs.Named.{clusters_of}
+use Rattle.volume_inside.specs.Rules.{IsVolume, IsVolumeRecord}
+use Rattle.volume_inside.specs.Typed.{typed_of}
+use Rattle.volume_inside.proofs.Journals.{rules_data}
+use Rattle.volume_tables.specs.Clusters.{AreHeld}
+use Rattle.volume_tables.specs.Contents.{HasContents}
+use Rattle.volume_tables.specs.Ends.{four_results, staged_results, results_now}
+use Rattle.volume_tables.specs.Tables.{with_ends}
+use Rattle.volume_tables.specs.declared.ends.JobEnds.{JobEnds}
+use Rattle.table_rules.specs.declared.records.LastResults.{LastResults}
+use Rattle.table_records.specs.declared.records.VolumeRecord.{VolumeRecord}
+use Rattle.vdisk.specs.Disk.{DiskState}
+use Rattle.vdisk.specs.Causes.{Rose}
+use Rattle.meta_log.specs.declared.fault.MetaFault.{MetaFault}
+use Rattle.meta_log.specs.declared.fault.MetaFault.TheVariants.{GroupFull, TableFull, Worn, Damaged, Failed as MetaFailed, Memory as MetaMemory}
+use Rattle.volume_tables.specs.Mount.{ends_from, read_meta, IsLogFault, mount_fault_of}
+use Rattle.volume_tables.specs.Spelled.{is_pair_of, is_well_formed, are_well_formed}
+use Rattle.volume_tables.proofs.WellFormed.{or_left, or_right}
+
+holds_true : (b : Bool) → T b → b ≡ true
+holds_true true t = refl
+holds_true false t = absurd t
+
+-- ---- pairs are well formed, as a test
+
+pair_test : {K V : Type 0} (c : Codec K V) (key value : List ℕ) → IsPairOf c key value → is_pair_of c key value ≡ true
+pair_test c key value pair = λ i. pair.spells i && pair.whole i
+
+-- a pair of the table of settings, or of results; and so on, a table more each time
+abbrev of_settings : List ℕ → List ℕ → Bool
+of_settings k v = is_pair_of settings_codec k v || is_pair_of result_codec k v
+
+abbrev of_extents : List ℕ → List ℕ → Bool
+of_extents k v = is_pair_of extent_codec k v || of_settings k v
+
+abbrev of_files : List ℕ → List ℕ → Bool
+of_files k v = is_pair_of file_codec k v || of_extents k v
+
+abbrev of_names : List ℕ → List ℕ → Bool
+of_names k v = is_pair_of name_codec k v || of_files k v
+
+one_test : (key value : List ℕ) → IsWellFormed key value → is_well_formed key value ≡ true
+one_test k v (inl p) = or_left (is_pair_of volume_codec k v) (of_names k v) (pair_test volume_codec k v p)
+one_test k v (inr later) = or_right (is_pair_of volume_codec k v) (of_names k v) (names later)
+  where
+    settings : IsPairOf settings_codec k v ⊎ IsPairOf result_codec k v → of_settings k v ≡ true
+    settings (inl p) = or_left (is_pair_of settings_codec k v) (is_pair_of result_codec k v) (pair_test settings_codec k v p)
+    settings (inr p) = or_right (is_pair_of settings_codec k v) (is_pair_of result_codec k v) (pair_test result_codec k v p)
+
+    extents : IsPairOf extent_codec k v ⊎ (IsPairOf settings_codec k v ⊎ IsPairOf result_codec k v) → of_extents k v ≡ true
+    extents (inl p) = or_left (is_pair_of extent_codec k v) (of_settings k v) (pair_test extent_codec k v p)
+    extents (inr later) = or_right (is_pair_of extent_codec k v) (of_settings k v) (settings later)
+
+    files : IsPairOf file_codec k v ⊎ (IsPairOf extent_codec k v ⊎ (IsPairOf settings_codec k v ⊎ IsPairOf result_codec k v)) → of_files k v ≡ true
+    files (inl p) = or_left (is_pair_of file_codec k v) (of_extents k v) (pair_test file_codec k v p)
+    files (inr later) = or_right (is_pair_of file_codec k v) (of_extents k v) (extents later)
+
+    names : IsPairOf name_codec k v ⊎ (IsPairOf file_codec k v ⊎ (IsPairOf extent_codec k v ⊎ (IsPairOf settings_codec k v ⊎ IsPairOf result_codec k v))) → of_names k v ≡ true
+    names (inl p) = or_left (is_pair_of name_codec k v) (of_files k v) (pair_test name_codec k v p)
+    names (inr later) = or_right (is_pair_of name_codec k v) (of_files k v) (files later)
+
+all_test : (m : Map) → AllWellFormed m → are_well_formed m ≡ true
+all_test [] all = refl
+all_test (e ∷ m) all = λ i. one_test e.0 e.1 all.0 i && all_test m all.1 i
+
+-- ---- tables of one key, and of the four kinds
+
+single_entry : {V : Type 0} (es : List (Unit {0} × V)) (v : V) → T (is_sorted single_cmp es) → find single_cmp tt es ≡ Some v → es ≡ (tt, v) ∷ []
+single_entry es v sorted found = same_entries single_cmp single_total (λ x y is. refl) es ((tt, v) ∷ []) sorted tt (λ q. found)
+
+less_is_not : Less ≡ Equal → ⊥
+less_is_not is = cc
+
+greater_is_not : Greater ≡ Equal → ⊥
+greater_is_not is = cc
+
+kind_exact : (x y : JobKind) → kind_cmp x y ≡ Equal → x ≡ y
+kind_exact Optimization Optimization is = refl
+kind_exact Optimization GarbageCollection is = absurd (less_is_not is)
+kind_exact Optimization Scrubbing is = absurd (less_is_not is)
+kind_exact Optimization Unoptimization is = absurd (less_is_not is)
+kind_exact GarbageCollection Optimization is = absurd (greater_is_not is)
+kind_exact GarbageCollection GarbageCollection is = refl
+kind_exact GarbageCollection Scrubbing is = absurd (less_is_not is)
+kind_exact GarbageCollection Unoptimization is = absurd (less_is_not is)
+kind_exact Scrubbing Optimization is = absurd (greater_is_not is)
+kind_exact Scrubbing GarbageCollection is = absurd (greater_is_not is)
+kind_exact Scrubbing Scrubbing is = refl
+kind_exact Scrubbing Unoptimization is = absurd (less_is_not is)
+kind_exact Unoptimization Optimization is = absurd (greater_is_not is)
+kind_exact Unoptimization GarbageCollection is = absurd (greater_is_not is)
+kind_exact Unoptimization Scrubbing is = absurd (greater_is_not is)
+kind_exact Unoptimization Unoptimization is = refl
+
+four_entries : (es : List (JobKind × ResultRecord)) (f : JobKind → ResultRecord) → T (is_sorted kind_cmp es)
+    → ((kind : JobKind) → find kind_cmp kind es ≡ Some (f kind)) → es ≡ four_results f
+four_entries es f sorted found = same_entries kind_cmp kind_total kind_exact es (four_results f) sorted tt by
+  where
+    by : (kind : JobKind) → find kind_cmp kind es ≡ find kind_cmp kind (four_results f)
+    by Optimization = found Optimization
+    by GarbageCollection = found GarbageCollection
+    by Scrubbing = found Scrubbing
+    by Unoptimization = found Unoptimization
+
+pub contents_found : (n : ℕ) (m : Map) (r : Records) → T (is_sorted bytes_cmp m) → IsVolume n m → AreRecordsOf (typed_of m) r
+    → HasContents m r.next_id r.settings (ends_from r.results)
+contents_found n m r sorted volume are = record {
+  sorted = holds_true (is_sorted bytes_cmp m) sorted;
+  spelled = all_test m volume.spelled;
+  volume = single_entry (typed volume_codec m) (volume_record r.next_id) (sorted_typed volume_codec m sorted) are.volume;
+  settings_there = single_entry (typed settings_codec m) r.settings (sorted_typed settings_codec m sorted) are.settings;
+  ends_there = four_entries (typed result_codec m) (λ kind. result_of kind r.results) (sorted_typed result_codec m sorted) are.results;
+}
+
+-- ---- what is not used is not named
+
+pub out_unless_used : (first : ℕ) (states : List State) (cs : List ℕ) (k : ℕ) (s : State) → s ≢ Used → AllUsed first states cs → IsIn states k s
+    → IsOut (first + k) cs
+out_unless_used first states [] k s differs used is = tt
+out_unless_used first states (c ∷ cs) k s differs used is = (
+  λ same.
+      let place : c - first ≡ k = omega (arith, same) in
+      let here : IsIn states k Used = subst (λ (j : ℕ). IsIn states j Used) place used.0 in
+      differs (sym is.state ∙ here.state),
+  out_unless_used first states cs k s differs used.1 is,
+)
+
+pub free_differs : Free ≢ Used
+free_differs is = cc
+
+deferred_differs : Deferred ≢ Used
+deferred_differs is = cc
+
+pub held_found : (n : ℕ) (m : Map) (states : List State) → IsVolume n m → IsFilled n (clusters_of (typed_of m)) states → AreHeld n states (typed_of m)
+held_found n m states volume filled =
+    let first = first_data_cluster n in
+    let cs = clusters_of (typed_of m) in
+    let free : (k : ℕ) → IsIn states k Free → IsOut (first + k) cs = λ k is. out_unless_used first states cs k Free free_differs filled.used is in (
+      rules_data n (typed_of m) volume.rules,
+      record {
+        free_stored = free;
+        free_now = free;
+        deferred_now = λ k is. out_unless_used first states cs k Deferred deferred_differs filled.used is;
+        once = volume.rules.clusters;
+      },
+    )
+
+pub lawful_found : (n : ℕ) (m : Map) (r : Records) → IsVolume n m → AreRecordsOf (typed_of m) r → IsVolumeRecord (volume_record r.next_id)
+lawful_found n m r volume are = subst (λ (o : Option VolumeRecord). IsSomeAnd o IsVolumeRecord) are.volume volume.rules.records.volume
+
+pub settled_found : (ends : JobEnds) (r : LastResults) → ends ≡ ends_from r → staged_results ends ≡ results_now ends
+settled_found ends r is = ap staged_results is ∙ sym (ap results_now is)
+
+-- the results of the tables are those in memory
+pub results_found : (n : ℕ) (m : Map) (r : Records) → T (is_sorted bytes_cmp m) → IsVolume n m → AreRecordsOf (typed_of m) r
+    → with_ends (ends_from r.results) (typed_of m) ≡ typed_of m
+results_found n m r sorted volume are =
+    let there : typed result_codec m ≡ staged_results (ends_from r.results) = (contents_found n m r sorted volume are).ends_there in
+    ap (λ (es : List (JobKind × ResultRecord)). record (typed_of m) { results = es }) (sym there)
+
+-- ---- the journal's refusals
+
+pub log_refused : (n : ℕ) (old new : DiskState) (fault : MetaFault) → ((h : ℕ) → fault ≡ Damaged h → IsTrue old.tells → read_meta n old.image ≡ Err h)
+    → (fault ≡ MetaFailed → Rose old.faults new.faults) → IsLogFault n old new (mount_fault_of fault)
+log_refused n old new GroupFull damaged failed = tt
+log_refused n old new TableFull damaged failed = tt
+log_refused n old new Worn damaged failed = tt
+log_refused n old new (Damaged h) damaged failed = damaged h refl
+log_refused n old new MetaFailed damaged failed = failed refl
+log_refused n old new MetaMemory damaged failed = tt

@@ -1,0 +1,121 @@
+-- What a mount founds, over the disk before it, after the superblock was read, and after all.
+use Rattle.std.specs.Prelude.{◌≡◌, ◌*◌, ◌+◌, ℕ, List, IsTrue, Result, Ok, Err, IfOk, IfErr, refl}
+use Rattle.std.proofs.Common.{sym, ◌∙◌, ap, subst, arith}
+use Rattle.vdisk.specs.Disk.{DiskState, Only}
+use Rattle.vdisk.specs.Steps.{keeps_then, keeps_as}
+use Rattle.vdisk.specs.declared.disk.Disk.{Ghosts}
+use Rattle.byte_map.specs.Words.{Map}
+use Rattle.cluster_space.specs.declared.state.State.TheVariants.{Free}
+use Rattle.meta_log.specs.Meta.{meta_of}
+use Rattle.meta_log.specs.Opened.{IsOnlyRead}
+use Rattle.table_rules.specs.Causes.{IsRefusal}
+use Rattle.table_rules.specs.Marks.{IsFilled}
+use Rattle.volume_inside.specs.Inside.{inside_at}
+use Rattle.volume_inside.specs.InsideOf.{IsImageOf, area_of as area_at}
+use Rattle.volume_inside.specs.Layout.{journal_at, half_bytes, first_data_cluster, AreData}
+use Rattle.volume_inside.specs.Lists.{IsOut}
+use Rattle.volume_inside.specs.Named.{named, clusters_of}
+use Rattle.volume_inside.specs.Ranges.{IsApart}
+use Rattle.volume_inside.specs.Shows.{HasInside, Shows, Kept}
+use Rattle.volume_inside.specs.Typed.{Typed, typed_of}
+use Rattle.volume_inside.specs.declared.mount_fault.MountFault.{MountFault}
+use Rattle.volume_inside.specs.declared.mount_fault.MountFault.TheVariants.{NotVolume, VersionUnknown, SizeDiffers, MetaDamaged, BadTable, Failed, Memory}
+use Rattle.volume_inside.proofs.Journals.{journal_apart, rules_data}
+use Rattle.volume_tables.specs.Log.{log_now}
+use Rattle.volume_tables.specs.Mount.{read_meta, IsFrontFault, IsInnerFault, IsMountFault}
+use Rattle.volume_tables.specs.Mounted.{IsMountedFrom}
+use Rattle.volume_tables.specs.Tables.{tables_now, inside_now, view_now, area_of, disk_of, states_of, IsTables}
+use Rattle.volume_tables.specs.declared.tables.Tables.{Tables}
+use Rattle.volume_tables.proofs.Assembled.{out_unless_used, free_differs}
+
+-- ---- refusals
+
+pub table_refused : (n : ℕ) (m : Map) (old new : DiskState) (fault : MountFault) → IsRefusal n m fault → (IsTrue old.tells → read_meta n old.image ≡ Ok m)
+    → IsInnerFault n old new fault
+table_refused n m old new NotVolume why spells = why
+table_refused n m old new (VersionUnknown found) why spells = λ told. (m, spells told, why)
+table_refused n m old new (SizeDiffers said size) why spells = why
+table_refused n m old new (MetaDamaged half) why spells = absurd why
+table_refused n m old new (BadTable rule) why spells = λ told. (m, spells told, why.0, why.1)
+table_refused n m old new Failed why spells = absurd why
+table_refused n m old new Memory why spells = tt
+
+pub front_refused : (old new : DiskState) (fault : MountFault) → IsFrontFault old new fault → IsMountFault old new fault
+front_refused old new NotVolume why = why
+front_refused old new (VersionUnknown found) why = absurd why
+front_refused old new (SizeDiffers said size) why = why
+front_refused old new (MetaDamaged half) why = absurd why
+front_refused old new (BadTable rule) why = absurd why
+front_refused old new Failed why = why
+front_refused old new Memory why = tt
+
+module _ (n : ℕ) (s₀ s₁ s₂ : DiskState) (first : IsOnlyRead s₀ s₁) where
+  told_on : IsTrue s₀.tells → IsTrue s₁.tells
+  told_on told = first.keeps.tells ∙ told
+
+  pub inner_refused : (fault : MountFault) → (IsTrue s₀.tells → IsImageOf n s₀.image) → IsInnerFault n s₁ s₂ fault → IsMountFault s₀ s₂ fault
+  inner_refused NotVolume image why = absurd why
+  inner_refused (VersionUnknown found) image why =
+      λ told. let r = why (told_on told) in (n, r.0, image told, ap (read_meta n) (sym first.image) ∙ r.1, r.2)
+  inner_refused (SizeDiffers said size) image why = absurd why
+  inner_refused (MetaDamaged half) image why = λ told. (n, image told, ap (read_meta n) (sym first.image) ∙ why (told_on told))
+  inner_refused (BadTable rule) image why =
+      λ told. let r = why (told_on told) in (n, r.0, image told, ap (read_meta n) (sym first.image) ∙ r.1, r.2, r.3)
+  inner_refused Failed image why = omega (arith, why, first.later)
+  inner_refused Memory image why = tt
+
+  pub read_twice : IsOnlyRead s₁ s₂ → IsOnlyRead s₀ s₂
+  read_twice second = record {
+    keeps = keeps_then s₀ s₁ s₂ s₀.may_leave first.keeps (keeps_as s₁ s₂ s₁.may_leave s₀.may_leave (λ c left. first.keeps.now c left) second.keeps);
+    image = second.image ∙ first.image;
+    later = omega (arith, first.later, second.later);
+  }
+
+-- ---- what is mounted
+
+module _ {D : Type 0} {d : Ghosts D} (t : Tables D d) (n : ℕ) (s₀ s₁ : DiskState) (first : IsOnlyRead s₀ s₁) (second : IsOnlyRead s₁ (disk_of t))
+    (from : IsMountedFrom n s₁ t) where
+  pub mounted_inside : IsImageOf n s₀.image → HasInside (area_at read_meta n) (inside_now t) s₀.image
+  mounted_inside image =
+      let last : (disk_of t).image ≡ s₀.image = second.image ∙ first.image in
+      record {
+        superblock = image.superblock;
+        size = image.size;
+        stored = log_now t.log;
+        spells = ap (read_meta n) (sym first.image) ∙ from.spells;
+        volume = from.volume;
+        is = λ i. inside_at (sym from.now i) (sym last i);
+      }
+
+  pub mounted_kept : t.clusters ≡ n → IsImageOf n s₀.image → Only s₀.image s₁.may_leave → Kept (area_of t) (disk_of t) (view_now t)
+  mounted_kept is image only = λ c left.
+      let at : c ≡ s₀.image = only c (second.keeps.now c left) in
+      let shows : Shows (area_of t) (view_now t) s₀.image = record {
+        inside = inside_now t;
+        has = subst (λ (k : ℕ). HasInside (record { clusters = k; meta = meta_of journal_at (half_bytes k) }) (inside_now t) s₀.image) (sym is) (mounted_inside image);
+        is = refl;
+      } in
+      subst (λ (q : List ℕ). Shows (area_of t) (view_now t) q) (sym at) shows
+
+  pub mounted_tables : t.clusters ≡ n → IsFilled n (clusters_of (tables_now t)) (states_of t) → IsTables t (tables_now t)
+  mounted_tables is filled =
+      let cs = clusters_of (tables_now t) in
+      let in_data : AreData n cs = subst (λ (q : Typed). AreData n (clusters_of q)) (sym from.now) (rules_data n (typed_of (log_now t.log)) from.volume.rules) in
+      record {
+        map = log_now t.log;
+        log = from.log;
+        is = sym from.now;
+        stored_apart = subst (λ (k : ℕ). IsApart journal_at (2 * half_bytes k) (named (tables_now t))) (sym is) (journal_apart n (tables_now t) in_data);
+        free = λ k free. subst (λ (j : ℕ). IsOut (first_data_cluster j + k) cs) (sym is) (out_unless_used (first_data_cluster n) (states_of t) cs k Free free_differs filled.used free);
+      }
+
+-- ---- what clauses of one answer say together
+
+pub ok_four : {T E : Type 0} (r : Result T E) (A B C F G : T → Type 0) → ((x : T) → A x → B x → C x → F x → G x)
+    → IfOk r A → IfOk r B → IfOk r C → IfOk r F → IfOk r G
+ok_four (Ok x) A B C F G then a b c f = then x a b c f
+ok_four (Err e) A B C F G then a b c f = tt
+
+pub err_then : {T E : Type 0} (r : Result T E) (A B : E → Type 0) → ((e : E) → A e → B e) → IfErr r A → IfErr r B
+err_then (Ok x) A B then a = tt
+err_then (Err e) A B then a = then e a

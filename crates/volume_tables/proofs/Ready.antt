@@ -1,0 +1,20 @@
+-- What look-ups in the journal's map rest on.
+use Rattle.std.specs.Prelude.{ℕ}
+use Rattle.byte_map.specs.Words.{Map}
+use Rattle.table_records.specs.Codecs.{IsKeyed}
+use Rattle.table_records.specs.Tables.{name_codec, file_codec, extent_codec}
+use Rattle.table_records.specs.declared.settings.Settings.{Settings}
+use Rattle.volume_tables.specs.declared.ends.JobEnds.{JobEnds}
+use Rattle.volume_tables.specs.Contents.{SortedAnd, HasContents}
+use Rattle.volume_tables.proofs.Answers.{as_true}
+use Rattle.volume_tables.proofs.Keyed.{names_keyed, files_keyed, extents_keyed}
+
+module _ {m : Map} {id : ℕ} {settings : Settings} {ends : JobEnds} (has : HasContents m id settings ends) where
+  pub names_ready : SortedAnd (IsKeyed name_codec) m
+  names_ready = record { sorted = as_true has.sorted; has = names_keyed m has.spelled }
+
+  pub files_ready : SortedAnd (IsKeyed file_codec) m
+  files_ready = record { sorted = as_true has.sorted; has = files_keyed m has.spelled }
+
+  pub extents_ready : SortedAnd (IsKeyed extent_codec) m
+  extents_ready = record { sorted = as_true has.sorted; has = extents_keyed m has.spelled }

@@ -1,0 +1,32 @@
+use Rattle.std.proofs.Common.{ℕ, subst, sym}
+use Rattle.meta_log.specs.Log.{IsLog}
+use Rattle.meta_log.specs.declared.log.MetaLog.{MetaLog}
+use Rattle.volume_inside.specs.Fresh.{fresh_map}
+use Rattle.volume_tables.specs.Formats.{IsCommitted}
+use Rattle.volume_tables.proofs.Committed.{formatted_tables, formatted_kept}
+use Rattle.volume_tables.proofs.formatting.make.Goals as goal
+
+pub returns-in-Ok-commit_first-clause-tables : goal.returns-in-Ok-commit_first-clause-tables
+returns-in-Ok-commit_first-clause-tables g c told =
+    let log = c.in-Ok-commit_first.ensures.log (c.in-Ok-make_log.ensures.log told) in
+    formatted_tables c.assemble.result c.args.clusters c.assemble.ensures.clusters
+    (subst (λ (l : MetaLog g.row.D.Denot g.D.Disk). IsLog l fresh_map) (sym c.assemble.ensures.log) log)
+
+pub returns-in-Ok-commit_first-clause-kept : goal.returns-in-Ok-commit_first-clause-kept
+returns-in-Ok-commit_first-clause-kept g c told =
+    let made = c.in-Ok-make_log.log in
+    let image = (g.D.Disk.state made.disk).image in
+    formatted_kept c.assemble.result c.args.clusters c.assemble.ensures.clusters image
+    (c.in-Ok-make_log.ensures.superblock told) c.in-Ok-make_log.ensures.size
+    (λ q left.
+    let before = subst (λ (l : MetaLog g.row.D.Denot g.D.Disk). (g.D.Disk.state l.disk).may_leave q) c.assemble.ensures.log left in
+    let settled = c.in-Ok-commit_first.ensures.settled (c.in-Ok-make_log.ensures.log told) q before in
+    subst (λ (k : ℕ). IsCommitted 4096 k image q) c.in-Ok-make_log.ensures.half
+    (subst (λ (k : ℕ). IsCommitted k made.half image q) c.in-Ok-make_log.ensures.at settled))
+
+pub returns-in-Ok-commit_first-clause-same : goal.returns-in-Ok-commit_first-clause-same
+returns-in-Ok-commit_first-clause-same g c =
+    let made = c.in-Ok-make_log.log in
+    let done = c.in-Ok-commit_first.log in
+    let same = g.met.D.Disk.same_next c.args.disk made.disk done.disk c.in-Ok-make_log.ensures.same c.in-Ok-commit_first.ensures.same in
+    subst (λ (l : MetaLog g.row.D.Denot g.D.Disk). g.D.Disk.is_same c.args.disk l.disk) (sym c.assemble.ensures.log) same

@@ -1,0 +1,90 @@
+use Rattle.std.proofs.Common.{◌≡◌, ◌∙◌, ℕ, List, ap, arith, length, refl, subst, sym}
+use Rattle.std.specs.Prelude.{not}
+use Rattle.cluster_space.specs.declared.state.State.{State}
+use Rattle.table_records.specs.Changes.{is_in_range}
+use Rattle.table_records.specs.Keys.{pair_cmp}
+use Rattle.table_records.specs.Tables.{extent_codec}
+use Rattle.volume_inside.specs.Changes.{keep_extents}
+use Rattle.volume_inside.specs.Layout.{first_data_cluster}
+use Rattle.volume_inside.specs.Typed.{Typed, typed_of}
+use Rattle.volume_tables.specs.Clusters.{AreHeld, all_deferred}
+use Rattle.volume_tables.specs.Dropped.{extents_in, AreUsedOnce}
+use Rattle.volume_tables.specs.Log.{log_now}
+use Rattle.volume_tables.proofs.WellFormed.{apart}
+use Rattle.volume_tables.proofs.Puts.{extents_dropped}
+use Rattle.volume_tables.proofs.Ready.{extents_ready}
+use Rattle.volume_tables.proofs.Sizes.{extent_key, end_size}
+use Rattle.volume_tables.proofs.Setting.{drop_contents, drop_checkpoint, drop_now}
+use Rattle.volume_tables.proofs.Leaving.{IsNoFreer}
+use Rattle.volume_tables.proofs.Deferring.{held_used_once, held_dropped, all_no_freer, all_length, drop_leaves}
+use Rattle.volume_tables.proofs.tables.Tables.drop_extent.Goals as goal
+
+pub defer_range-requires-clause-keyed : goal.defer_range-requires-clause-keyed
+defer_range-requires-clause-keyed g c = extents_ready c.args.self.now.contents
+
+pub defer_range-requires-clause-used : goal.defer_range-requires-clause-used
+defer_range-requires-clause-used g c =
+    let t = c.args.self.now in
+    subst (λ (n : ℕ). AreUsedOnce n t.space (extents_in c.args.from c.args.to (typed_of (log_now t.log)).extents)) (sym c.first_cluster-first.ensures.is)
+    (held_used_once t.clusters t.space (typed_of (log_now t.log)) t.held t.spaces (λ k. is_in_range pair_cmp c.args.from c.args.to k))
+
+pub drop_range-requires-clause-room : goal.drop_range-requires-clause-room
+drop_range-requires-clause-room g c b w key ends =
+    let low = extent_key b c.args.from key in
+    let high = end_size extent_codec 13 extent_key (omega arith) c.args.to w ends in
+    omega (arith, low, high, c.requires)
+
+pub invariant_of-self-clause-spaces : goal.invariant_of-self-clause-spaces
+invariant_of-self-clause-spaces g c =
+    let t = c.args.self.now in
+    ap (λ (xs : List State). length xs) c.defer_range.ensures
+    ∙ all_length c.first_cluster-first.result (extents_in c.args.from c.args.to (typed_of (log_now t.log)).extents) t.space ∙ t.spaces
+
+pub invariant_of-self-clause-contents : goal.invariant_of-self-clause-contents
+invariant_of-self-clause-contents g c =
+    drop_contents extent_codec c.args.self.now c.drop_range.new.log c.args.from c.args.to c.drop_range.ensures (apart 4 1 refl) (apart 4 9 refl) (apart 4 10 refl)
+
+pub invariant_of-self-clause-held : goal.invariant_of-self-clause-held
+invariant_of-self-clause-held g c =
+    let t = c.args.self.now in
+    let space : c.defer_range.new.space ≡ all_deferred (first_data_cluster t.clusters) (extents_in c.args.from c.args.to (typed_of (log_now t.log)).extents) t.space =
+    c.defer_range.ensures ∙ ap (λ (n : ℕ). all_deferred n (extents_in c.args.from c.args.to (typed_of (log_now t.log)).extents) t.space) c.first_cluster-first.ensures.is in
+    let tables = extents_dropped (log_now t.log) (log_now c.drop_range.new.log) c.args.from c.args.to c.drop_range.ensures.dropped in
+    subst (λ (p : List State × Typed). AreHeld t.clusters p.0 p.1) (λ i. (sym space i, sym tables i))
+    (held_dropped t.clusters t.space (typed_of (log_now t.log)) t.held t.spaces (λ k. is_in_range pair_cmp c.args.from c.args.to k))
+
+pub invariant_of-self-clause-few : goal.invariant_of-self-clause-few
+invariant_of-self-clause-few g c running worn =
+    let p = c.drop_range.ensures in
+    let low = extent_key p.dropped.low c.args.from p.dropped.begins in
+    let high = end_size extent_codec 13 extent_key (omega arith) c.args.to p.dropped.high p.dropped.ends in
+    omega (arith, low, high, p.taken, c.requires)
+
+pub returns-clause-tables : goal.returns-clause-tables
+returns-clause-tables g c =
+    let t = c.args.self.now in
+    drop_now extent_codec t c.drop_range.new.log c.args.from c.args.to c.drop_range.ensures (keep_extents (λ k. not (is_in_range pair_cmp c.args.from c.args.to k))) (λ x. refl)
+    (extents_dropped (log_now t.log) (log_now c.drop_range.new.log) c.args.from c.args.to c.drop_range.ensures.dropped)
+
+pub returns-clause-checkpoint : goal.returns-clause-checkpoint
+returns-clause-checkpoint g c = drop_checkpoint extent_codec c.args.self.now c.drop_range.new.log c.args.from c.args.to c.drop_range.ensures
+
+pub returns-clause-staged : goal.returns-clause-staged
+returns-clause-staged g c =
+    let p = c.drop_range.ensures in
+    let low = extent_key p.dropped.low c.args.from p.dropped.begins in
+    let high = end_size extent_codec 13 extent_key (omega arith) c.args.to p.dropped.high p.dropped.ends in
+    omega (arith, low, high, p.taken)
+
+pub returns-clause-leaves : goal.returns-clause-leaves
+returns-clause-leaves g c =
+    let t = c.args.self.now in
+    drop_leaves t _ c.drop_range.ensures.quiet refl
+    (subst (λ (xs : List State). IsNoFreer t.space xs) (sym c.defer_range.ensures)
+    (all_no_freer c.first_cluster-first.result (extents_in c.args.from c.args.to (typed_of (log_now t.log)).extents) t.space))
+    refl (g.met.D.Disk.same_self t.log.disk)
+
+pub returns-clause-states : goal.returns-clause-states
+returns-clause-states g c =
+    let t = c.args.self.now in
+    c.defer_range.ensures ∙ ap (λ (n : ℕ). all_deferred n (extents_in c.args.from c.args.to (typed_of (log_now t.log)).extents) t.space) c.first_cluster-first.ensures.is

@@ -1,0 +1,13 @@
+pub mod Log
+pub mod Ends
+pub mod Spelled
+pub mod Contents
+pub mod Clusters
+pub mod Dropped
+pub mod Faults
+pub mod Sizes
+pub mod Staging
+pub mod Tables
+pub mod Mount
+pub mod Mounted
+pub mod Formats

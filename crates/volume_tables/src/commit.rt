@@ -1,0 +1,99 @@
+//! The tables become durable.
+
+ghost use Rattle.std.specs.Prelude.{◌≡◌, ◌⊎◌, ◌↔◌, ◌≤◌, ◌^◌, ◌-◌, ℕ, List, IsTrue, false, true, map, OnOk, OnErr, IsErrOf};
+ghost use Rattle.vdisk.specs.Causes.{Rose};
+ghost use Rattle.vdisk.specs.Steps.{Keeps};
+ghost use Rattle.cluster_space.specs.States.{released};
+ghost use Rattle.plain_volume.specs.Volume.{Volume};
+ghost use Rattle.meta_log.specs.Log.{needs_checkpoint};
+ghost use Rattle.meta_log.specs.Meta.{last_epoch};
+ghost use Rattle.volume_inside.specs.Typed.{Typed};
+ghost use Rattle.volume_inside.specs.Rules.{RulesHold};
+ghost use Rattle.volume_inside.specs.Shows.{Kept, ShowsEither};
+ghost use Rattle.volume_tables.specs.Log.{IsSameLog};
+
+use crate::fault;
+use crate::tables::Tables;
+use plain_volume::Fault;
+use vdisk::Disk;
+
+impl<D: Disk> Tables<D> {
+    ghost use Rattle.volume_tables.specs.Tables.{tables_now, inside_now, view_now, states_of, staged_of, checkpoint_of, disk_of, area_of, stopped, IsTables, IsStoredAs};
+
+    /// Commits what is staged, and leaves the states of the clusters.
+    fn commit_log(&mut self) -> Result<(), Fault>
+        requires running { stopped self.old ≡ false }
+        requires rules { RulesHold self.old.clusters (tables_now self.old) }
+        ensures moments { (stored : Typed) (w : Volume) → IsTables self.old stored →
+            Kept (area_of self.old) (disk_of self.old) w →
+            Keeps (disk_of self.old) (disk_of self.new) (ShowsEither (area_of self.old) w (view_now self.old)) }
+        ensures kept { (stored : Typed) (w : Volume) → IsTables self.old stored →
+            Kept (area_of self.old) (disk_of self.old) w →
+            OnOk result (Kept (area_of self.old) (disk_of self.new) (view_now self.old)) }
+        ensures stored { (stored : Typed) → IsTables self.old stored →
+            OnOk result (IsStoredAs self.new (tables_now self.old)) }
+        ensures now { tables_now self.new ≡ tables_now self.old }
+        ensures inside { inside_now self.new ≡ inside_now self.old }
+        ensures states { states_of self.new ≡ states_of self.old }
+        ensures clusters { self.new.clusters ≡ self.old.clusters }
+        ensures checkpoint { checkpoint_of self.new ≡ checkpoint_of self.old }
+        ensures staged { OnOk result (staged_of self.new ≡ 0) }
+        ensures worn { IsErrOf result Fault.Worn ↔ (IsTrue (needs_checkpoint self.old.log) ×
+            (self.old.log.epoch ≡ last_epoch)) }
+        ensures unspent { IsErrOf result Fault.Worn → self.new.log ≡ self.old.log }
+        ensures failed { IsErrOf result Fault.Failed →
+            Rose (disk_of self.old).faults (disk_of self.new).faults × (stopped self.new ≡ true) }
+        ensures refused { OnErr result (IsErrOf result Fault.Worn ⊎ IsErrOf result Fault.Failed) }
+        ensures runs { OnOk result (stopped self.new ≡ false) }
+        ensures later { (disk_of self.old).faults ≤ (disk_of self.new).faults }
+        ensures same { IsSameLog self.old.log self.new.log }
+    {
+        fault::of_log(self.log.commit())
+    }
+
+    /// Makes what was deferred free.
+    fn release(&mut self)
+        ensures states { states_of self.new ≡ map released (states_of self.old) }
+        ensures log { self.new.log ≡ self.old.log }
+        ensures tables { tables_now self.new ≡ tables_now self.old }
+        ensures clusters { self.new.clusters ≡ self.old.clusters }
+    {
+        self.space.release_all();
+    }
+
+    /// Makes the tables durable, which meet the rules. A crash at any moment shows what was kept, or the tables now;
+    /// after Ok the tables now are kept, and clusters that were deferred are free. After `Worn` nothing has changed,
+    /// and after `Failed` the tables are stopped.
+    pub fn commit(&mut self) -> Result<(), Fault>
+        requires running { stopped self.old ≡ false }
+        requires rules { RulesHold self.old.clusters (tables_now self.old) }
+        ensures moments { (stored : Typed) (w : Volume) → IsTables self.old stored →
+            Kept (area_of self.old) (disk_of self.old) w →
+            Keeps (disk_of self.old) (disk_of self.new) (ShowsEither (area_of self.old) w (view_now self.old)) }
+        ensures kept { (stored : Typed) (w : Volume) → IsTables self.old stored →
+            Kept (area_of self.old) (disk_of self.old) w →
+            OnOk result (Kept (area_of self.old) (disk_of self.new) (view_now self.old)) }
+        ensures tables { (stored : Typed) → IsTables self.old stored →
+            OnOk result (IsTables self.new (tables_now self.old)) }
+        ensures now { tables_now self.new ≡ tables_now self.old }
+        ensures inside { inside_now self.new ≡ inside_now self.old }
+        ensures freed { OnOk result (states_of self.new ≡ map released (states_of self.old)) }
+        ensures clusters { self.new.clusters ≡ self.old.clusters }
+        ensures checkpoint { checkpoint_of self.new ≡ checkpoint_of self.old }
+        ensures staged { OnOk result (staged_of self.new ≡ 0) }
+        ensures worn { IsErrOf result Fault.Worn ↔ (IsTrue (needs_checkpoint self.old.log) ×
+            (self.old.log.epoch ≡ last_epoch)) }
+        ensures unspent { IsErrOf result Fault.Worn →
+            (self.new.log ≡ self.old.log) × (states_of self.new ≡ states_of self.old) }
+        ensures failed { IsErrOf result Fault.Failed →
+            Rose (disk_of self.old).faults (disk_of self.new).faults × (stopped self.new ≡ true) }
+        ensures refused { OnErr result (IsErrOf result Fault.Worn ⊎ IsErrOf result Fault.Failed) }
+        ensures runs { OnOk result (stopped self.new ≡ false) }
+        ensures later { (disk_of self.old).faults ≤ (disk_of self.new).faults }
+        ensures same { IsSameLog self.old.log self.new.log }
+    {
+        self.commit_log()?;
+        self.release();
+        Ok(())
+    }
+}

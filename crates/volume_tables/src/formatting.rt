@@ -1,0 +1,290 @@
+//! A fresh volume is made.
+
+ghost use Rattle.std.specs.Prelude.{◌≡◌, ◌⊎◌, ◌≤◌, ◌<◌, ◌*◌, ◌+◌, ℕ, List, []};
+ghost use Rattle.std.specs.Prelude.{false, length, take, IsTrue, Ok, IfOk, IfErr, OnOk, OnErr};
+ghost use Rattle.byte_map.specs.Words.{Map};
+ghost use Rattle.meta_log.specs.Log.{IsLog, now_of, staged_of, state_of};
+ghost use Rattle.meta_log.specs.Meta.{meta_of};
+ghost use Rattle.table_records.specs.Settings.{settings_bytes};
+ghost use Rattle.vdisk.specs.Causes.{HasCause, Rose};
+ghost use Rattle.vdisk.specs.Disk.{ChangedWithin};
+ghost use Rattle.volume_inside.specs.Fresh.{fresh_map, fresh_settings, fresh_tables};
+ghost use Rattle.volume_inside.specs.Layout.{journal_at, half_bytes as half_of};
+ghost use Rattle.table_rules.specs.Found.{AreRecordsOf};
+ghost use Rattle.table_rules.specs.Marks.{IsFilled};
+ghost use Rattle.volume_inside.specs.Superblock.{IsSuperblock, HasSuperblock};
+ghost use Rattle.volume_tables.specs.Formats.{IsCommitted, IsFormatFault, with_results};
+ghost use Rattle.volume_inside.specs.Shows.{Kept};
+ghost use Rattle.volume_tables.specs.Tables.{tables_now, area_of, disk_of, staged_of as staged_in, stopped, IsTables};
+
+use crate::mounting::{assemble, of_log};
+use crate::tables::Tables;
+use cluster_space::Space;
+use meta_log::{MetaFault, MetaLog};
+use std::alloc::Global;
+use table_records::{Memory, ResultRecord, Settings, Texts};
+use table_rules::{Checked, LastResults, Records, TableFault};
+use vdisk::{Disk, Failed, write_synced};
+use volume_inside::{JOURNAL_AT, MountFault, data_clusters, half_bytes, write_superblock};
+
+/// The bytes of a cluster.
+const CLUSTER_BYTES: usize = 4096;
+
+/// The first record of a volume: version 1, and 1 is drawn next.
+const FIRST_RECORD: [u8; 12] = [0, 0, 0, 1, 0, 0, 0, 0, 0, 0, 0, 1];
+
+/// The result of a kind of job of which none has ended.
+const NO_RESULT: [u8; 9] = [0; 9];
+
+/// The first cluster of an image of so many clusters.
+fn superblock_cluster(alloc: Global, clusters: u32) -> Result<Vec<u8>, Memory>
+    requires least { 4096 ≤ clusters }
+    requires most { clusters ≤ 1048576 }
+    ensures size { IfOk result (λ bytes. length bytes.items ≡ 4096) }
+    ensures is { IfOk result (λ bytes. IsSuperblock clusters bytes.items) }
+{
+    let mut bytes = Vec::new(alloc);
+    bytes.extend_from_slice(&write_superblock(clusters))?;
+    bytes.resize(CLUSTER_BYTES, 0)?;
+    Ok(bytes)
+}
+
+/// Makes the disk as long as an image of so many clusters, and writes and syncs its superblock.
+fn prepare<D: Disk>(disk: &mut D, clusters: u32, superblock: &[u8]) -> Result<(), Failed>
+    requires fits { length (D.state disk.old).image ≤ 4096 * clusters }
+    requires some { 1 ≤ clusters }
+    requires cluster { length superblock.now ≡ 4096 }
+    requires is { IsSuperblock clusters superblock.now }
+    ensures written { IsTrue (D.state disk.old).tells → OnOk result (HasSuperblock clusters (D.state disk.new).image) }
+    ensures size { OnOk result (length (D.state disk.new).image ≡ 4096 * clusters) }
+    ensures tells { (D.state disk.new).tells ≡ (D.state disk.old).tells }
+    ensures same { D.is_same disk.old disk.new }
+    ensures cause { HasCause (D.state disk.old).faults (D.state disk.new).faults result }
+{
+    disk.grow(4096 * clusters as u64)?;
+    write_synced(disk, 0, superblock)
+}
+
+/// The settings of a fresh volume.
+fn first_settings(alloc: Global) -> Settings
+    ensures { result ≡ fresh_settings }
+{
+    Settings {
+        enabled: false,
+        verify: false,
+        minimum_size: 32_768,
+        age_days: 3,
+        threshold: 100,
+        folders: Texts::new(alloc),
+        types: Texts::new(alloc),
+    }
+}
+
+/// Stages the results of all kinds.
+fn stage_results<D: Disk>(log: &mut MetaLog<D>) -> Result<(), MetaFault>
+    ensures now { OnOk result (now_of log.new ≡ with_results (now_of log.old)) }
+    ensures log { (m : Map) → IsLog log.old m → IsLog log.new m }
+    ensures disk { log.new.disk ≡ log.old.disk }
+    ensures at { log.new.at ≡ log.old.at }
+    ensures half { log.new.half ≡ log.old.half }
+    ensures stopped { log.new.stopped ≡ log.old.stopped }
+{
+    log.stage_put(&[10, 1], &NO_RESULT)?;
+    log.stage_put(&[10, 2], &NO_RESULT)?;
+    log.stage_put(&[10, 3], &NO_RESULT)?;
+    log.stage_put(&[10, 4], &NO_RESULT)
+}
+
+/// Stages the first records of a volume.
+fn stage_first<D: Disk>(log: &mut MetaLog<D>, settings: &[u8]) -> Result<(), MetaFault>
+    requires empty { now_of log.old ≡ [] }
+    requires settings { settings.now ≡ settings_bytes fresh_settings }
+    ensures now { OnOk result (now_of log.new ≡ fresh_map) }
+    ensures log { (m : Map) → IsLog log.old m → IsLog log.new m }
+    ensures disk { log.new.disk ≡ log.old.disk }
+    ensures at { log.new.at ≡ log.old.at }
+    ensures half { log.new.half ≡ log.old.half }
+    ensures stopped { log.new.stopped ≡ log.old.stopped }
+{
+    log.stage_put(&[1], &FIRST_RECORD)?;
+    log.stage_put(&[9], settings)?;
+    stage_results(log)
+}
+
+/// Makes the first records of a volume durable, in a journal that was just made.
+fn commit_first<D: Disk>(
+    mut log: MetaLog<D>,
+    settings: &[u8],
+) -> Result<MetaLog<D>, (D, MountFault)>
+    requires empty { now_of log ≡ [] }
+    requires settings { settings.now ≡ settings_bytes fresh_settings }
+    requires running { log.stopped ≡ false }
+    ensures now { IfOk result (λ new. now_of new ≡ fresh_map) }
+    ensures log { IsLog log [] → IfOk result (λ new. IsLog new fresh_map) }
+    ensures settled { IsLog log [] → IfOk result (λ new. (c : List ℕ) → (state_of new).may_leave c →
+        IsCommitted log.at log.half (state_of log).image c) }
+    ensures size { IfOk result (λ new. length (state_of new).image ≡ length (state_of log).image) }
+    ensures at { IfOk result (λ new. new.at ≡ log.at) }
+    ensures half { IfOk result (λ new. new.half ≡ log.half) }
+    ensures staged { IfOk result (λ new. staged_of new ≡ 0) }
+    ensures runs { IfOk result (λ new. new.stopped ≡ false) }
+    ensures refused { IfErr result (λ e. ((e.1 ≡ MountFault.Failed) × Rose (state_of log).faults (D.state e.0).faults)
+        ⊎ (e.1 ≡ MountFault.Memory)) }
+    ensures same { IfOk result (λ new. D.is_same log.disk new.disk) }
+    ensures same_err { IfErr result (λ e. D.is_same log.disk e.0) }
+{
+    match stage_first(&mut log, settings) {
+        Ok(()) => {}
+        Err(_) => return Err((log.into_disk(), MountFault::Memory)),
+    }
+    match log.commit() {
+        Ok(()) => Ok(log),
+        Err(MetaFault::Failed) => Err((log.into_disk(), MountFault::Failed)),
+        Err(_) => Err((log.into_disk(), MountFault::Memory)),
+    }
+}
+
+/// What stands in the tables of a fresh volume of so many clusters.
+fn first_found(alloc: Global, clusters: u32) -> Result<Checked, cluster_space::Memory>
+    requires { 4096 ≤ clusters }
+    ensures records { IfOk result (λ found. AreRecordsOf fresh_tables found.records) }
+    ensures space { IfOk result (λ found. IsFilled clusters [] found.space) }
+{
+    let space = Space::new(alloc, data_clusters(clusters))?;
+    let none = ResultRecord {
+        second: 0,
+        result: 0,
+    };
+    let records = Records {
+        next_id: 1,
+        settings: first_settings(alloc),
+        results: LastResults {
+            optimization: none,
+            garbage_collection: none,
+            scrubbing: none,
+            unoptimization: none,
+        },
+    };
+    Ok(Checked { records, space })
+}
+
+/// Writes the superblock, and makes the journal behind it.
+fn make_log<D: Disk>(
+    alloc: Global,
+    mut disk: D,
+    clusters: u32,
+    superblock: &[u8],
+) -> Result<MetaLog<D>, (D, MountFault)>
+    requires least { 4096 ≤ clusters }
+    requires most { clusters ≤ 1048576 }
+    requires fits { length (D.state disk).image ≤ 4096 * clusters }
+    requires cluster { length superblock.now ≡ 4096 }
+    requires is { IsSuperblock clusters superblock.now }
+    ensures log { IsTrue (D.state disk).tells → IfOk result (λ log. IsLog log []) }
+    ensures superblock { IsTrue (D.state disk).tells → IfOk result
+        (λ log. HasSuperblock clusters (state_of log).image) }
+    ensures size { IfOk result (λ log. length (state_of log).image ≡ 4096 * clusters) }
+    ensures empty { IfOk result (λ log. now_of log ≡ []) }
+    ensures at { IfOk result (λ log. log.at ≡ journal_at) }
+    ensures half { IfOk result (λ log. log.half ≡ half_of clusters) }
+    ensures runs { IfOk result (λ log. log.stopped ≡ false) }
+    ensures refused { IfErr result (λ e. ((e.1 ≡ MountFault.Failed) × Rose (D.state disk).faults (D.state e.0).faults)
+        ⊎ (e.1 ≡ MountFault.Memory)) }
+    ensures later { IfOk result (λ log. (D.state disk).faults ≤ (state_of log).faults) }
+    ensures same { IfOk result (λ log. D.is_same disk log.disk) }
+    ensures same_err { IfErr result (λ e. D.is_same disk e.0) }
+{
+    match prepare(&mut disk, clusters, superblock) {
+        Ok(()) => {}
+        Err(_) => return Err((disk, MountFault::Failed)),
+    }
+    match MetaLog::format(alloc, disk, JOURNAL_AT, half_bytes(clusters)) {
+        Ok(log) => Ok(log),
+        Err((disk, fault)) => Err((disk, of_log(fault))),
+    }
+}
+
+/// What is made in memory before the disk is written.
+#[derive(Drop)]
+struct Parts {
+    superblock: Vec<u8>,
+    settings: Vec<u8>,
+    found: Checked,
+}
+
+fn first_parts(alloc: Global, clusters: u32) -> Result<Parts, TableFault>
+    requires least { 4096 ≤ clusters }
+    requires most { clusters ≤ 1048576 }
+    ensures size { IfOk result (λ parts. length parts.superblock.items ≡ 4096) }
+    ensures is { IfOk result (λ parts. IsSuperblock clusters parts.superblock.items) }
+    ensures settings { IfOk result (λ parts. parts.settings.items ≡ settings_bytes fresh_settings) }
+    ensures records { IfOk result (λ parts. AreRecordsOf fresh_tables parts.found.records) }
+    ensures space { IfOk result (λ parts. IsFilled clusters [] parts.found.space) }
+{
+    let superblock = superblock_cluster(alloc, clusters)?;
+    let settings = first_settings(alloc).to_value(alloc)?;
+    let found = first_found(alloc, clusters)?;
+    Ok(Parts {
+        superblock,
+        settings,
+        found,
+    })
+}
+
+/// Makes a fresh volume on a disk that is not too long.
+fn make<D: Disk>(alloc: Global, disk: D, clusters: u32) -> Result<Tables<D>, (D, MountFault)>
+    requires least { 4096 ≤ clusters }
+    requires most { clusters ≤ 1048576 }
+    requires fits { length (D.state disk).image ≤ 4096 * clusters }
+    ensures tables { IsTrue (D.state disk).tells → IfOk result (λ tables. IsTables tables fresh_tables) }
+    ensures kept { IsTrue (D.state disk).tells → IfOk result (λ tables. Kept (area_of tables) (disk_of tables) []) }
+    ensures now { IfOk result (λ tables. tables_now tables ≡ fresh_tables) }
+    ensures clusters { IfOk result (λ tables. tables.clusters ≡ clusters) }
+    ensures staged { IfOk result (λ tables. staged_in tables ≡ 0) }
+    ensures runs { IfOk result (λ tables. stopped tables ≡ false) }
+    ensures fresh { IfOk result (λ tables. tables.worn ≡ false) }
+    ensures refused { IfErr result (λ e. IsFormatFault clusters (D.state disk) (D.state e.0) e.1) }
+    ensures same { IfOk result (λ tables. D.is_same disk tables.log.disk) }
+    ensures same_err { IfErr result (λ e. D.is_same disk e.0) }
+{
+    let parts = match first_parts(alloc, clusters) {
+        Ok(parts) => parts,
+        Err(_) => return Err((disk, MountFault::Memory)),
+    };
+    let log = match make_log(alloc, disk, clusters, &parts.superblock) {
+        Ok(log) => log,
+        Err(fault) => return Err(fault),
+    };
+    match commit_first(log, &parts.settings) {
+        Ok(log) => Ok(assemble(log, clusters, parts.found)),
+        Err(fault) => Err(fault),
+    }
+}
+
+impl<D: Disk> Tables<D> {
+    /// Makes a fresh volume of so many clusters, from 4,096 to 1,048,576, with no file. A disk that is shorter grows;
+    /// one that is longer is refused, as it was, with the bytes that were asked for and the bytes that it has. Other
+    /// refusals hand the disk back too, maybe with a part of the volume made.
+    pub fn format(alloc: Global, disk: D, clusters: u32) -> Result<Tables<D>, (D, MountFault)>
+        requires least { 4096 ≤ clusters }
+        requires most { clusters ≤ 1048576 }
+        ensures tables { IsTrue (D.state disk).tells → IfOk result (λ tables. IsTables tables fresh_tables) }
+        ensures kept { IsTrue (D.state disk).tells → IfOk result (λ tables. Kept (area_of tables) (disk_of tables) []) }
+        ensures now { IfOk result (λ tables. tables_now tables ≡ fresh_tables) }
+        ensures clusters { IfOk result (λ tables. tables.clusters ≡ clusters) }
+        ensures staged { IfOk result (λ tables. staged_in tables ≡ 0) }
+        ensures runs { IfOk result (λ tables. stopped tables ≡ false) }
+        ensures fresh { IfOk result (λ tables. tables.worn ≡ false) }
+        ensures fits { OnOk result (length (D.state disk).image ≤ 4096 * clusters) }
+        ensures refused { IfErr result (λ e. IsFormatFault clusters (D.state disk) (D.state e.0) e.1) }
+        ensures same { IfOk result (λ tables. D.is_same disk tables.log.disk) }
+        ensures same_err { IfErr result (λ e. D.is_same disk e.0) }
+    {
+        let asked = 4096 * clusters as u64;
+        let size = disk.size();
+        if size > asked {
+            return Err((disk, MountFault::SizeDiffers(asked, size)));
+        }
+        make(alloc, disk, clusters)
+    }
+}

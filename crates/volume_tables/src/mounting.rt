@@ -1,0 +1,182 @@
+//! An image is mounted.
+
+ghost use Rattle.std.specs.Prelude.{◌≡◌, ◌≤◌, ◌*◌, T, false, length, IsTrue, Ok, IfOk, IfErr};
+ghost use Rattle.std.specs.FinMap.Entries.{is_sorted};
+ghost use Rattle.byte_map.specs.Words.{bytes_cmp};
+ghost use Rattle.meta_log.specs.Log.{IsLog, now_of, staged_of, state_of};
+ghost use Rattle.meta_log.specs.Opened.{IsOnlyRead};
+ghost use Rattle.table_rules.specs.Found.{AreRecordsOf};
+ghost use Rattle.table_rules.specs.Marks.{IsFilled};
+ghost use Rattle.volume_inside.specs.InsideOf.{InsideOf};
+ghost use Rattle.volume_inside.specs.Layout.{half_bytes as half_of, journal_at};
+ghost use Rattle.volume_inside.specs.Named.{clusters_of};
+ghost use Rattle.volume_inside.specs.Rules.{IsVolume};
+ghost use Rattle.volume_inside.specs.Shows.{Kept};
+ghost use Rattle.volume_inside.specs.Typed.{typed_of};
+ghost use Rattle.volume_tables.specs.Mount.{read_meta, ends_from, IsLogFault};
+ghost use Rattle.volume_tables.specs.Mount.{IsInnerFault, IsMountFault, mount_fault_of};
+ghost use Rattle.volume_tables.specs.Mounted.{IsMountedFrom};
+ghost use Rattle.volume_tables.specs.Log.{log_now};
+ghost use Rattle.volume_tables.specs.Tables.{tables_now, inside_now, view_now, area_of};
+ghost use Rattle.volume_tables.specs.Tables.{disk_of, states_of, staged_of as staged_in, stopped, IsTables};
+
+use crate::ends::{JobEnd, JobEnds};
+use crate::front::read_front;
+use crate::tables::Tables;
+use meta_log::{MetaFault, MetaLog};
+use std::alloc::Global;
+use table_rules::{Checked, LastResults, Records, read_tables};
+use vdisk::Disk;
+use volume_inside::{JOURNAL_AT, MountFault, half_bytes};
+
+/// What a refusal to open the journal is for a mount. That there is no room for records does not come here.
+pub(crate) fn of_log(fault: MetaFault) -> MountFault
+    ensures { result ≡ mount_fault_of fault }
+{
+    match fault {
+        MetaFault::Damaged(half) => MountFault::MetaDamaged(half),
+        MetaFault::Failed => MountFault::Failed,
+        MetaFault::Memory | MetaFault::GroupFull | MetaFault::TableFull | MetaFault::Worn => {
+            MountFault::Memory
+        }
+    }
+}
+
+/// Opens the journal of an image of so many clusters.
+fn open_log<D: Disk>(alloc: Global, disk: D, clusters: u32) -> Result<MetaLog<D>, (D, MountFault)>
+    requires least { 4096 ≤ clusters }
+    requires most { clusters ≤ 1048576 }
+    requires size { length (D.state disk).image ≡ 4096 * clusters }
+    ensures opened { IsTrue (D.state disk).tells → IfOk result (λ log. IsLog log (now_of log)) }
+    ensures spells { IsTrue (D.state disk).tells →
+        IfOk result (λ log. read_meta clusters (D.state disk).image ≡ Ok (now_of log)) }
+    ensures refused { IfErr result (λ e. IsLogFault clusters (D.state disk) (D.state e.0) e.1) }
+    ensures read { IfOk result (λ log. IsOnlyRead (D.state disk) (state_of log)) }
+    ensures read_err { IfErr result (λ e. IsOnlyRead (D.state disk) (D.state e.0)) }
+    ensures same { IfOk result (λ log. D.is_same disk log.disk) }
+    ensures same_err { IfErr result (λ e. D.is_same disk e.0) }
+    ensures at { IfOk result (λ log. log.at ≡ journal_at) }
+    ensures half { IfOk result (λ log. log.half ≡ half_of clusters) }
+    ensures staged { IfOk result (λ log. staged_of log ≡ 0) }
+    ensures runs { IfOk result (λ log. log.stopped ≡ false) }
+{
+    match MetaLog::open(alloc, disk, JOURNAL_AT, half_bytes(clusters)) {
+        Ok(log) => Ok(log),
+        Err((disk, fault)) => Err((disk, of_log(fault))),
+    }
+}
+
+/// The ends of jobs whose records are all in the journal.
+fn ends_of(results: LastResults) -> JobEnds
+    ensures { result ≡ ends_from results }
+{
+    JobEnds {
+        optimization: JobEnd {
+            last: results.optimization,
+            staged: results.optimization,
+        },
+        garbage_collection: JobEnd {
+            last: results.garbage_collection,
+            staged: results.garbage_collection,
+        },
+        scrubbing: JobEnd {
+            last: results.scrubbing,
+            staged: results.scrubbing,
+        },
+        unoptimization: JobEnd {
+            last: results.unoptimization,
+            staged: results.unoptimization,
+        },
+    }
+}
+
+/// The tables over a journal that was just opened or made, with what was found in it.
+pub(crate) fn assemble<D: Disk>(log: MetaLog<D>, clusters: u32, found: Checked) -> Tables<D>
+    requires least { 4096 ≤ clusters }
+    requires most { clusters ≤ 1048576 }
+    requires at { log.at ≡ journal_at }
+    requires half { log.half ≡ half_of clusters }
+    requires size { length (state_of log).image ≡ 4096 * clusters }
+    requires staged { staged_of log ≡ 0 }
+    requires volume { IsVolume clusters (log_now log) }
+    requires sorted { T (is_sorted bytes_cmp (log_now log)) }
+    requires records { AreRecordsOf (typed_of (log_now log)) found.records }
+    requires space { IsFilled clusters (clusters_of (typed_of (log_now log))) found.space }
+    ensures log { result.log ≡ log }
+    ensures clusters { result.clusters ≡ clusters }
+    ensures space { result.space ≡ found.space }
+    ensures tables { tables_now result ≡ typed_of (log_now log) }
+    ensures worn { result.worn ≡ false }
+{
+    let Checked { records, space } = found;
+    let Records {
+        next_id,
+        settings,
+        results,
+    } = records;
+    let ends = ends_of(results);
+    Tables {
+        log,
+        space,
+        clusters,
+        next_id,
+        settings,
+        ends,
+        worn: false,
+    }
+}
+
+/// Opens the journal of an image of so many clusters, and checks its tables.
+fn open_tables<D: Disk>(alloc: Global, disk: D, clusters: u32) -> Result<Tables<D>, (D, MountFault)>
+    requires least { 4096 ≤ clusters }
+    requires most { clusters ≤ 1048576 }
+    requires size { length (D.state disk).image ≡ 4096 * clusters }
+    ensures spells { IsTrue (D.state disk).tells → IfOk result (IsMountedFrom clusters (D.state disk)) }
+    ensures clusters { IfOk result (λ tables. tables.clusters ≡ clusters) }
+    ensures refused { IfErr result (λ e. IsInnerFault clusters (D.state disk) (D.state e.0) e.1) }
+    ensures read { IfOk result (λ tables. IsOnlyRead (D.state disk) (disk_of tables)) }
+    ensures read_err { IfErr result (λ e. IsOnlyRead (D.state disk) (D.state e.0)) }
+    ensures same { IfOk result (λ tables. D.is_same disk tables.log.disk) }
+    ensures same_err { IfErr result (λ e. D.is_same disk e.0) }
+    ensures staged { IfOk result (λ tables. staged_in tables ≡ 0) }
+    ensures runs { IfOk result (λ tables. stopped tables ≡ false) }
+    ensures fresh { IfOk result (λ tables. tables.worn ≡ false) }
+    ensures space { IfOk result (λ tables. IsFilled clusters (clusters_of (tables_now tables)) (states_of tables)) }
+{
+    let log = match open_log(alloc, disk, clusters) {
+        Ok(log) => log,
+        Err(fault) => return Err(fault),
+    };
+    match read_tables(alloc, clusters, log.pairs()) {
+        Ok(found) => Ok(assemble(log, clusters, found)),
+        Err(fault) => Err((log.into_disk(), fault)),
+    }
+}
+
+impl<D: Disk> Tables<D> {
+    /// Mounts the image of a disk, which is synced and read, and not written. A refusal hands the disk back, with the
+    /// first reason why its image has no inside: it does not begin with a superblock, it is not as long as that says,
+    /// the live half of its journal is damaged, the version of its tables is not known, or a rule of them is broken.
+    pub fn mount(alloc: Global, mut disk: D) -> Result<Tables<D>, (D, MountFault)>
+        ensures inside { IsTrue (D.state disk).tells →
+            IfOk result (λ tables. InsideOf read_meta (D.state disk).image (Ok (inside_now tables))) }
+        ensures tables { IsTrue (D.state disk).tells → IfOk result (λ tables. IsTables tables (tables_now tables)) }
+        ensures kept { IsTrue (D.state disk).tells →
+            IfOk result (λ tables. Kept (area_of tables) (disk_of tables) (view_now tables)) }
+        ensures refused { IfErr result (λ e. IsMountFault (D.state disk) (D.state e.0) e.1) }
+        ensures read { IfOk result (λ tables. IsOnlyRead (D.state disk) (disk_of tables)) }
+        ensures read_err { IfErr result (λ e. IsOnlyRead (D.state disk) (D.state e.0)) }
+        ensures same { IfOk result (λ tables. D.is_same disk tables.log.disk) }
+        ensures same_err { IfErr result (λ e. D.is_same disk e.0) }
+        ensures space { IfOk result
+            (λ tables. IsFilled tables.clusters (clusters_of (tables_now tables)) (states_of tables)) }
+        ensures staged { IfOk result (λ tables. staged_in tables ≡ 0) }
+        ensures runs { IfOk result (λ tables. stopped tables ≡ false) }
+        ensures fresh { IfOk result (λ tables. tables.worn ≡ false) }
+    {
+        match read_front(&mut disk) {
+            Ok(clusters) => open_tables(alloc, disk, clusters),
+            Err(fault) => Err((disk, fault)),
+        }
+    }
+}

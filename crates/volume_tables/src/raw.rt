@@ -1,0 +1,114 @@
+//! The pairs of one table in the journal's map.
+
+ghost use Rattle.std.specs.Prelude.{◌≡◌, ◌≤◌, ◌+◌, ℕ, List, [], ◌∷◌, length, take, None, Some, IsTrue};
+ghost use Rattle.std.specs.FinMap.Entries.{find};
+ghost use Rattle.byte_map.specs.Words.{first_of, next_in, bytes_cmp};
+ghost use Rattle.table_records.specs.Codecs.{typed, IsKeyed};
+ghost use Rattle.table_records.specs.Changes.{EndsRange};
+ghost use Rattle.volume_tables.specs.Log.{log_now, log_staged};
+ghost use Rattle.volume_tables.specs.Contents.{SortedAnd};
+ghost use Rattle.volume_tables.specs.Staging.{IsStagedPut, IsStagedDrop};
+
+use crate::fault;
+use meta_log::MetaLog;
+use plain_volume::Fault;
+use table_records::{MOST_KEY_BYTES, MOST_VALUE_BYTES, Table};
+use vdisk::Disk;
+
+/// The value of a key.
+pub(crate) fn get<D: Disk, T: Table>(log: &MetaLog<D>, key: T::Key) -> Option<T::Value>
+    ensures { result ≡ find T.codec.cmp key (typed T.codec (log_now log.now)) }
+{
+    let mut spelled = [0u8; MOST_KEY_BYTES];
+    let length = T::write_key(key, &mut spelled);
+    match log.get(&spelled[..length]) {
+        Some(bytes) => Some(T::read_value(bytes)),
+        None => None,
+    }
+}
+
+/// The entry with the least key above one, where each key with the number of the table is one of its keys.
+pub(crate) fn next<D: Disk, T: Table>(log: &MetaLog<D>, after: T::Key) -> Option<(T::Key, T::Value)>
+    ensures { SortedAnd (IsKeyed T.codec) (log_now log.now) →
+        result ≡ next_in T.codec.cmp after (typed T.codec (log_now log.now)) }
+{
+    let mut spelled = [0u8; MOST_KEY_BYTES];
+    let length = T::write_key(after, &mut spelled);
+    match log.next(&spelled[..length]) {
+        None => None,
+        Some((key, value)) => match T::read_key(key) {
+            None => None,
+            Some(key) => Some((key, T::read_value(value))),
+        },
+    }
+}
+
+/// The first entry of the table of this number, where each key with the number is one of its keys, and the number
+/// alone is none.
+pub(crate) fn first<D: Disk, T: Table>(log: &MetaLog<D>, number: u8) -> Option<(T::Key, T::Value)>
+    ensures { T.codec.number ≡ number → T.codec.read_key (number ∷ []) ≡ None →
+        SortedAnd (IsKeyed T.codec) (log_now log.now) →
+        result ≡ first_of (typed T.codec (log_now log.now)) }
+{
+    match log.next(&[number]) {
+        None => None,
+        Some((key, value)) => match T::read_key(key) {
+            None => None,
+            Some(key) => Some((key, T::read_value(value))),
+        },
+    }
+}
+
+/// Stages an entry of a table. Room for its record was ensured.
+pub(crate) fn put<D: Disk, T: Table>(
+    log: &mut MetaLog<D>,
+    key: T::Key,
+    value: T::Value,
+) -> Result<(), Fault>
+    requires { (b w : List ℕ) → T.codec.read_key b ≡ Some key → IsTrue (T.codec.is_value w) →
+        log_staged log.old + (5 + (length b + length w)) ≤ 65536 }
+    ensures { IsStagedPut T.codec key value log.old log.new result }
+{
+    let mut spelled = [0u8; MOST_KEY_BYTES];
+    let length = T::write_key(key, &mut spelled);
+    let mut bytes = [0u8; MOST_VALUE_BYTES];
+    let size = T::write_value(value, &mut bytes);
+    fault::of_log(log.stage_put(&spelled[..length], &bytes[..size]))
+}
+
+/// Stages that the entries of a table with the keys from one on are dropped, all of them or those below another. The
+/// number is that of the next table. Room for the record was ensured.
+pub(crate) fn drop_range<D: Disk, T: Table>(
+    log: &mut MetaLog<D>,
+    from: T::Key,
+    to: Option<T::Key>,
+    end: u8,
+)
+    requires number { T.codec.number + 1 ≡ end }
+    requires room { (b w : List ℕ) → T.codec.read_key b ≡ Some from → EndsRange T.codec to w →
+        log_staged log.old + (5 + (length b + length w)) ≤ 65536 }
+    ensures { IsStagedDrop T.codec from to log.old log.new }
+{
+    let mut low = [0u8; MOST_KEY_BYTES];
+    let low_length = T::write_key(from, &mut low);
+    let mut high = [0u8; MOST_KEY_BYTES];
+    let high_length = write_end::<T>(to, end, &mut high);
+    log.stage_drop(&low[..low_length], &high[..high_length])
+        .unwrap();
+}
+
+/// Spells the end of a range of keys.
+fn write_end<T: Table>(to: Option<T::Key>, end: u8, out: &mut [u8]) -> usize
+    requires room { 32 ≤ length out.old }
+    requires number { T.codec.number + 1 ≡ end }
+    ensures short { result ≤ 32 }
+    ensures ends { EndsRange T.codec to (take result out.new) }
+{
+    match to {
+        Some(to) => T::write_key(to, out),
+        None => {
+            out[0] = end;
+            1
+        }
+    }
+}

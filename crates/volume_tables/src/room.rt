@@ -1,0 +1,78 @@
+//! Room for records and clusters is ensured, and ids are drawn.
+
+ghost use Rattle.std.specs.Prelude.{◌≡◌, ◌⊎◌, ◌≤◌, ◌<◌, ◌+◌, ◌^◌, ◌-◌, false, true, ◌↔◌, IsTrue, IsOk, OnOk, OnErr, IfOk, IsErrOf, Err};
+ghost use Rattle.vdisk.specs.Causes.{Rose};
+ghost use Rattle.vdisk.specs.Steps.{Keeps};
+ghost use Rattle.cluster_space.specs.States.{free_in, deferred_in};
+ghost use Rattle.plain_volume.specs.Volume.{Volume};
+ghost use Rattle.meta_log.specs.Log.{needs_checkpoint};
+ghost use Rattle.meta_log.specs.Meta.{last_epoch};
+ghost use Rattle.volume_inside.specs.Typed.{Typed};
+ghost use Rattle.volume_inside.specs.Rules.{RulesHold};
+ghost use Rattle.volume_inside.specs.Shows.{Kept, ShowsEither};
+ghost use Rattle.volume_tables.specs.Log.{IsSameLog};
+
+use crate::tables::Tables;
+use plain_volume::Fault;
+use vdisk::Disk;
+
+/// The most bytes of records that calls may stage: behind them the records of four results find room.
+pub const MOST_RECORDS: usize = 65_472;
+
+impl<D: Disk> Tables<D> {
+    ghost use Rattle.volume_tables.specs.Tables.{tables_now, inside_now, view_now, states_of, staged_of, checkpoint_of, disk_of, area_of, stopped, IsTables, IsRoomFor, GoesOn};
+
+    /// Whether records of so many bytes and so many clusters find room without a commit.
+    fn has_room(&self, records: usize, clusters: u32) -> bool
+        requires { records ≤ 65472 }
+        ensures { IsTrue result ↔ IsRoomFor self.now records clusters }
+    {
+        self.log.staged_bytes() <= MOST_RECORDS - records && clusters <= self.space.free_count()
+    }
+
+    /// Ensures that records of so many bytes can be staged and so many clusters be taken. Where they cannot at once, the
+    /// tables, which meet the rules, are committed first.
+    ///
+    /// The fault is `Full`, before any commit, exactly where more clusters are asked for than are free and deferred;
+    /// others are those of the commit.
+    pub fn ensure_room(&mut self, records: usize, clusters: u32) -> Result<(), Fault>
+        requires running { stopped self.old ≡ false }
+        requires records { records ≤ 65472 }
+        requires rules { RulesHold self.old.clusters (tables_now self.old) }
+        ensures room { OnOk result (IsRoomFor self.new records clusters) }
+        ensures moments { (stored : Typed) (w : Volume) → IsTables self.old stored →
+            Kept (area_of self.old) (disk_of self.old) w →
+            Keeps (disk_of self.old) (disk_of self.new) (ShowsEither (area_of self.old) w (view_now self.old)) }
+        ensures goes_on { (stored : Typed) (w : Volume) → IsTables self.old stored →
+            Kept (area_of self.old) (disk_of self.old) w →
+            OnOk result (GoesOn self.old self.new stored w) }
+        ensures now { tables_now self.new ≡ tables_now self.old }
+        ensures inside { inside_now self.new ≡ inside_now self.old }
+        ensures clusters { self.new.clusters ≡ self.old.clusters }
+        ensures checkpoint { checkpoint_of self.new ≡ checkpoint_of self.old }
+        ensures full { free_in (states_of self.old) + deferred_in (states_of self.old) < clusters →
+            result ≡ Err (Fault.Full clusters (free_in (states_of self.old) + deferred_in (states_of self.old))) }
+        ensures fits { clusters ≤ free_in (states_of self.old) + deferred_in (states_of self.old) →
+            OnErr result (IsErrOf result Fault.Worn ⊎ IsErrOf result Fault.Failed) }
+        ensures worn { IsErrOf result Fault.Worn →
+            IsTrue (needs_checkpoint self.old.log) × (self.old.log.epoch ≡ last_epoch) }
+        ensures wears { (IsRoomFor self.old records clusters → ⊥) →
+            clusters ≤ free_in (states_of self.old) + deferred_in (states_of self.old) →
+            IsTrue (needs_checkpoint self.old.log) → self.old.log.epoch ≡ last_epoch → IsErrOf result Fault.Worn }
+        ensures at_once { IsRoomFor self.old records clusters → IsOk result }
+        ensures failed { IsErrOf result Fault.Failed →
+            Rose (disk_of self.old).faults (disk_of self.new).faults × (stopped self.new ≡ true) }
+        ensures runs { OnOk result (stopped self.new ≡ false) }
+        ensures later { (disk_of self.old).faults ≤ (disk_of self.new).faults }
+        ensures same { IsSameLog self.old.log self.new.log }
+    {
+        let free = self.space.free_count() as u64 + self.space.deferred_count() as u64;
+        if (clusters as u64) > free {
+            return Err(Fault::Full(clusters as u64, free));
+        }
+        if self.has_room(records, clusters) {
+            return Ok(());
+        }
+        self.commit()
+    }
+}

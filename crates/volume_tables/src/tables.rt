@@ -1,0 +1,42 @@
+//! The tables of a volume over its journal.
+
+ghost use Rattle.std.specs.Prelude.{◌≡◌, ◌≤◌, ◌*◌, ◌-◌, ◌^◌, false, length};
+ghost use Rattle.volume_inside.specs.Layout.{half_bytes, journal_at, data_clusters};
+ghost use Rattle.volume_inside.specs.Typed.{typed_of};
+ghost use Rattle.volume_tables.specs.Log.{log_state, log_now, log_staged, log_stopped};
+ghost use Rattle.volume_tables.specs.Ends.{staged_results, results_now};
+ghost use Rattle.volume_tables.specs.Contents.{HasContents};
+ghost use Rattle.volume_tables.specs.Clusters.{AreHeld, held_prop};
+
+use crate::ends::JobEnds;
+use cluster_space::Space;
+use meta_log::MetaLog;
+use table_records::Settings;
+use vdisk::Disk;
+
+/// The tables of a volume over its journal, with the states of the data clusters.
+#[derive(Drop)]
+pub struct Tables<D: Disk> {
+    pub(crate) log: MetaLog<D>,
+    /// The states of the data clusters, from the first on.
+    pub(crate) space: Space,
+    /// How many clusters the image has.
+    pub(crate) clusters: u32,
+    pub(crate) next_id: u64,
+    pub(crate) settings: Settings,
+    pub(crate) ends: JobEnds,
+    /// Whether a commit was refused because the last epoch is used up.
+    pub(crate) worn: bool,
+    ghost least: { 4096 ≤ clusters },
+    ghost most: { clusters ≤ 1048576 },
+    ghost place: { log.at ≡ journal_at },
+    ghost half: { log.half ≡ half_bytes clusters },
+    ghost size: { length (log_state log).image ≡ 4096 * clusters },
+    ghost spaces: { length space ≡ data_clusters clusters },
+    ghost last_id: { next_id ≤ 2 ^ 48 - 1 },
+    ghost contents: { HasContents (log_now log) next_id settings ends },
+    ghost held: { AreHeld clusters space (typed_of (log_now log)) } by { held_prop _ _ (typed_of (log_now log)) },
+    ghost settled: { staged_results ends ≡ results_now ends },
+    // Room is left for the records of four results.
+    ghost few: { log_stopped log ≡ false → worn ≡ false → log_staged log ≤ 65472 },
+}
