@@ -1,6 +1,7 @@
 // Inserting into and finding in the two forms of an index.
 ghost use Rattle.std.specs.Prelude.{◌≤◌, ◌<◌, ◌^◌, slice_get, vec_len};
 
+use crate::random::mixed;
 use crate::report::{Figure, cost};
 use hash_index::{CompactIndex, Digests, Index, OrderedIndex};
 use std::alloc::{AllocError, Global};
@@ -116,12 +117,4 @@ fn random_digest(number: u64) -> [u8; 32] {
     digest[..8].copy_from_slice(&first.to_be_bytes());
     digest[8..16].copy_from_slice(&mixed(first).to_be_bytes());
     digest
-}
-
-/// The step of splitmix64 (Steele, Lea and Flood 2014).
-fn mixed(number: u64) -> u64 {
-    let one = number.wrapping_add(0x9e37_79b9_7f4a_7c15);
-    let two = (one ^ (one >> 30)).wrapping_mul(0xbf58_476d_1ce4_e5b9);
-    let three = (two ^ (two >> 27)).wrapping_mul(0x94d0_49bb_1331_11eb);
-    three ^ (three >> 31)
 }

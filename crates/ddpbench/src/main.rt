@@ -4,9 +4,12 @@
 //! since the machine may be shared. Counts go to standard output, and are the same at each run.
 #![tactic(auto)]
 
+mod counted;
 mod cut;
 mod index;
+mod journal;
 mod lines;
+mod map;
 mod random;
 mod report;
 mod space;
@@ -17,7 +20,7 @@ use std::process::ExitCode;
 /// The largest size of `cut` and `lines`, in MiB: what one file of the volume holds.
 const MOST_MEBIBYTES: u64 = 1024;
 
-const USAGE: &str = "usage: ddpbench cut|lines MB, or ddpbench index|space COUNT";
+const USAGE: &str = "usage: ddpbench cut|lines MB, or ddpbench index|journal|map|space COUNT";
 
 fn main(rt: HostRuntime) -> anyhow::Result<ExitCode> {
     let mut words = env::args(&rt)?;
@@ -35,6 +38,8 @@ fn main(rt: HostRuntime) -> anyhow::Result<ExitCode> {
         "cut" if mebibytes <= MOST_MEBIBYTES => cut::measure(&rt, mebibytes)?,
         "lines" if mebibytes <= MOST_MEBIBYTES => lines::measure(&rt, mebibytes)?,
         "index" if 0 < size => index::measure(&rt, size)?,
+        "journal" if 0 < size => journal::measure(&rt, size)?,
+        "map" if 0 < size => map::measure(&rt, size)?,
         "space" if 0 < size => space::measure(&rt, size)?,
         _ => {
             rt.eprintln(USAGE)?;

@@ -12,3 +12,11 @@ pub fn add_random(bytes: &mut Vec<u8>, seed: u64, eights: usize) -> Result<(), A
     }
     Ok(())
 }
+
+/// The step of splitmix64 (Steele, Lea and Flood 2014).
+pub fn mixed(number: u64) -> u64 {
+    let one = number.wrapping_add(0x9e37_79b9_7f4a_7c15);
+    let two = (one ^ (one >> 30)).wrapping_mul(0xbf58_476d_1ce4_e5b9);
+    let three = (two ^ (two >> 27)).wrapping_mul(0x94d0_49bb_1331_11eb);
+    three ^ (three >> 31)
+}

@@ -39,3 +39,29 @@ pub fn cost(name: &'static str, calls: u32, time: Duration) -> Figure
         unit: "ns",
     }
 }
+
+/// The cost of a call among so many, which prints as `figure: NAME.COUNT VALUE ns`.
+#[derive(Clone, Copy)]
+pub struct CostAmong {
+    pub name: &'static str,
+    pub count: u32,
+    pub time: Duration,
+    pub ghost some: { 0 < count },
+}
+
+impl fmt::Display for CostAmong {
+    fn fmt<W: fmt::Write>(&self, f: &mut fmt::Formatter<W>) -> fmt::Result {
+        let nanos = self.time.as_nanos() / u128::from(self.count);
+        write!(f, "figure: {}.{} {} ns", self.name, self.count, nanos)
+    }
+}
+
+/// A figure in records/s.
+pub fn per_second(name: &'static str, count: u32, time: Duration) -> Figure {
+    let micros = time.as_micros().max(1);
+    Figure {
+        name,
+        value: (u128::from(count) * 1_000_000 / micros) as u64,
+        unit: "records/s",
+    }
+}
