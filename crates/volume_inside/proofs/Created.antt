@@ -58,7 +58,7 @@ names_after_put x id name (e ∷ names) none =
         ]
 
 -- a file that is there has an id below the next one
-drawn_id : (t : Typed) (x : ℕ) → Each (FileHolds t) t.files → IsSome (find nat_cmp x t.files) → x < next_id_of t
+pub drawn_id : (t : Typed) (x : ℕ) → Each (FileHolds t) t.files → IsSome (find nat_cmp x t.files) → x < next_id_of t
 drawn_id t x files there = by (find nat_cmp x t.files) refl there
   where
     by : (o : Option FileRecord) → find nat_cmp x t.files ≡ o → IsSome o → x < next_id_of t

@@ -1,5 +1,6 @@
 -- What was found in the tables of an image makes the tables in memory.
-use Rattle.std.specs.Prelude.{◌≡◌, ◌≢◌, ◌⊎◌, ◌+◌, ◌-◌, ◌&&◌, ◌||◌, ℕ, Bool, true, false, T, List, [], ◌∷◌, Option, Some, IsSomeAnd, IsTrue, Err, refl}
+use Rattle.std.specs.Prelude.{◌≡◌, ◌≢◌, ◌⊎◌, ◌+◌, ◌-◌, ◌&&◌, ◌||◌, ℕ, Bool, true, false, T, List, [], ◌∷◌, Option, Some}
+use Rattle.std.specs.Prelude.{IsSomeAnd, IsTrue, Err, refl}
 use Rattle.std.proofs.Common.{sym, ◌∙◌, ap, subst, inl, inr, arith}
 use Rattle.std.specs.declared.cmp.Ordering.TheVariants.{Less, Equal, Greater}
 use Rattle.std.specs.FinMap.Entries.{find, is_sorted, same_entries}
@@ -14,7 +15,8 @@ use Rattle.table_records.specs.Orders.{single_total, kind_total}
 use Rattle.table_records.specs.Tables.{volume_codec, name_codec, file_codec, extent_codec, settings_codec, result_codec}
 use Rattle.table_records.specs.WellFormed.{IsWellFormed, AllWellFormed}
 use Rattle.table_records.specs.declared.jobs.JobKind.{JobKind}
-use Rattle.table_records.specs.declared.jobs.JobKind.TheVariants.{Optimization, GarbageCollection, Scrubbing, Unoptimization}
+use Rattle.table_records.specs.declared.jobs.JobKind.TheVariants.{Optimization, GarbageCollection, Scrubbing}
+use Rattle.table_records.specs.declared.jobs.JobKind.TheVariants.{Unoptimization}
 use Rattle.table_records.specs.declared.records.ResultRecord.{ResultRecord}
 use Rattle.table_rules.specs.Found.{volume_record, AreRecordsOf, result_of}
 use Rattle.table_rules.specs.Marks.{AllUsed, IsFilled}
@@ -22,20 +24,19 @@ use Rattle.table_rules.specs.declared.records.Records.{Records}
 use Rattle.volume_inside.specs.Layout.{first_data_cluster}
 use Rattle.volume_inside.specs.Lists.{IsOut}
 use Rattle.volume_inside.specs.Named.{clusters_of}
-use Rattle.volume_inside.specs.Rules.{IsVolume, IsVolumeRecord}
-use Rattle.volume_inside.specs.Typed.{typed_of}
+use Rattle.volume_inside.specs.Rules.{IsVolume, IsVolumeRecord, RulesHold}
+use Rattle.volume_inside.specs.Typed.{Typed, typed_of}
 use Rattle.volume_inside.proofs.Journals.{rules_data}
 use Rattle.volume_tables.specs.Clusters.{AreHeld}
 use Rattle.volume_tables.specs.Contents.{HasContents}
-use Rattle.volume_tables.specs.Ends.{four_results, staged_results, results_now}
+use Rattle.volume_tables.specs.Ends.{four_results, staged_results}
 use Rattle.volume_tables.specs.Tables.{with_ends}
-use Rattle.volume_tables.specs.declared.ends.JobEnds.{JobEnds}
-use Rattle.table_rules.specs.declared.records.LastResults.{LastResults}
 use Rattle.table_records.specs.declared.records.VolumeRecord.{VolumeRecord}
 use Rattle.vdisk.specs.Disk.{DiskState}
 use Rattle.vdisk.specs.Causes.{Rose}
 use Rattle.meta_log.specs.declared.fault.MetaFault.{MetaFault}
-use Rattle.meta_log.specs.declared.fault.MetaFault.TheVariants.{GroupFull, TableFull, Worn, Damaged, Failed as MetaFailed, Memory as MetaMemory}
+use Rattle.meta_log.specs.declared.fault.MetaFault.TheVariants.{GroupFull, TableFull, Worn, Damaged}
+use Rattle.meta_log.specs.declared.fault.MetaFault.TheVariants.{Failed as MetaFailed, Memory as MetaMemory}
 use Rattle.volume_tables.specs.Mount.{ends_from, read_meta, IsLogFault, mount_fault_of}
 use Rattle.volume_tables.specs.Spelled.{is_pair_of, is_well_formed, are_well_formed}
 use Rattle.volume_tables.proofs.WellFormed.{or_left, or_right}
@@ -67,18 +68,23 @@ one_test k v (inl p) = or_left (is_pair_of volume_codec k v) (of_names k v) (pai
 one_test k v (inr later) = or_right (is_pair_of volume_codec k v) (of_names k v) (names later)
   where
     settings : IsPairOf settings_codec k v ⊎ IsPairOf result_codec k v → of_settings k v ≡ true
-    settings (inl p) = or_left (is_pair_of settings_codec k v) (is_pair_of result_codec k v) (pair_test settings_codec k v p)
-    settings (inr p) = or_right (is_pair_of settings_codec k v) (is_pair_of result_codec k v) (pair_test result_codec k v p)
+    settings (inl p) = or_left (is_pair_of settings_codec k v) (is_pair_of result_codec k v)
+        (pair_test settings_codec k v p)
+    settings (inr p) = or_right (is_pair_of settings_codec k v) (is_pair_of result_codec k v)
+        (pair_test result_codec k v p)
 
-    extents : IsPairOf extent_codec k v ⊎ (IsPairOf settings_codec k v ⊎ IsPairOf result_codec k v) → of_extents k v ≡ true
+    extents : IsPairOf extent_codec k v ⊎ (IsPairOf settings_codec k v ⊎ IsPairOf result_codec k v)
+        → of_extents k v ≡ true
     extents (inl p) = or_left (is_pair_of extent_codec k v) (of_settings k v) (pair_test extent_codec k v p)
     extents (inr later) = or_right (is_pair_of extent_codec k v) (of_settings k v) (settings later)
 
-    files : IsPairOf file_codec k v ⊎ (IsPairOf extent_codec k v ⊎ (IsPairOf settings_codec k v ⊎ IsPairOf result_codec k v)) → of_files k v ≡ true
+    files : IsPairOf file_codec k v ⊎ (IsPairOf extent_codec k v
+        ⊎ (IsPairOf settings_codec k v ⊎ IsPairOf result_codec k v)) → of_files k v ≡ true
     files (inl p) = or_left (is_pair_of file_codec k v) (of_extents k v) (pair_test file_codec k v p)
     files (inr later) = or_right (is_pair_of file_codec k v) (of_extents k v) (extents later)
 
-    names : IsPairOf name_codec k v ⊎ (IsPairOf file_codec k v ⊎ (IsPairOf extent_codec k v ⊎ (IsPairOf settings_codec k v ⊎ IsPairOf result_codec k v))) → of_names k v ≡ true
+    names : IsPairOf name_codec k v ⊎ (IsPairOf file_codec k v
+        ⊎ (IsPairOf extent_codec k v ⊎ (IsPairOf settings_codec k v ⊎ IsPairOf result_codec k v))) → of_names k v ≡ true
     names (inl p) = or_left (is_pair_of name_codec k v) (of_files k v) (pair_test name_codec k v p)
     names (inr later) = or_right (is_pair_of name_codec k v) (of_files k v) (files later)
 
@@ -88,8 +94,10 @@ all_test (e ∷ m) all = λ i. one_test e.0 e.1 all.0 i && all_test m all.1 i
 
 -- ---- tables of one key, and of the four kinds
 
-single_entry : {V : Type 0} (es : List (Unit {0} × V)) (v : V) → T (is_sorted single_cmp es) → find single_cmp tt es ≡ Some v → es ≡ (tt, v) ∷ []
-single_entry es v sorted found = same_entries single_cmp single_total (λ x y is. refl) es ((tt, v) ∷ []) sorted tt (λ q. found)
+single_entry : {V : Type 0} (es : List (Unit {0} × V)) (v : V) → T (is_sorted single_cmp es)
+    → find single_cmp tt es ≡ Some v → es ≡ (tt, v) ∷ []
+single_entry es v sorted found = same_entries single_cmp single_total (λ x y is. refl) es ((tt, v) ∷ []) sorted tt
+    (λ q. found)
 
 less_is_not : Less ≡ Equal → ⊥
 less_is_not is = cc
@@ -125,19 +133,23 @@ four_entries es f sorted found = same_entries kind_cmp kind_total kind_exact es 
     by Scrubbing = found Scrubbing
     by Unoptimization = found Unoptimization
 
-pub contents_found : (n : ℕ) (m : Map) (r : Records) → T (is_sorted bytes_cmp m) → IsVolume n m → AreRecordsOf (typed_of m) r
+pub contents_found : (n : ℕ) (m : Map) (r : Records) → T (is_sorted bytes_cmp m) → IsVolume n m
+    → AreRecordsOf (typed_of m) r
     → HasContents m r.next_id r.settings (ends_from r.results)
 contents_found n m r sorted volume are = record {
   sorted = holds_true (is_sorted bytes_cmp m) sorted;
   spelled = all_test m volume.spelled;
-  volume = single_entry (typed volume_codec m) (volume_record r.next_id) (sorted_typed volume_codec m sorted) are.volume;
+  volume = single_entry (typed volume_codec m) (volume_record r.next_id)
+      (sorted_typed volume_codec m sorted) are.volume;
   settings_there = single_entry (typed settings_codec m) r.settings (sorted_typed settings_codec m sorted) are.settings;
-  ends_there = four_entries (typed result_codec m) (λ kind. result_of kind r.results) (sorted_typed result_codec m sorted) are.results;
+  ends_there = four_entries (typed result_codec m) (λ kind. result_of kind r.results)
+      (sorted_typed result_codec m sorted) are.results;
 }
 
 -- ---- what is not used is not named
 
-pub out_unless_used : (first : ℕ) (states : List State) (cs : List ℕ) (k : ℕ) (s : State) → s ≢ Used → AllUsed first states cs → IsIn states k s
+pub out_unless_used : (first : ℕ) (states : List State) (cs : List ℕ) (k : ℕ) (s : State) → s ≢ Used
+    → AllUsed first states cs → IsIn states k s
     → IsOut (first + k) cs
 out_unless_used first states [] k s differs used is = tt
 out_unless_used first states (c ∷ cs) k s differs used is = (
@@ -154,11 +166,13 @@ free_differs is = cc
 deferred_differs : Deferred ≢ Used
 deferred_differs is = cc
 
-pub held_found : (n : ℕ) (m : Map) (states : List State) → IsVolume n m → IsFilled n (clusters_of (typed_of m)) states → AreHeld n states (typed_of m)
+pub held_found : (n : ℕ) (m : Map) (states : List State) → IsVolume n m → IsFilled n (clusters_of (typed_of m)) states
+    → AreHeld n states (typed_of m)
 held_found n m states volume filled =
     let first = first_data_cluster n in
     let cs = clusters_of (typed_of m) in
-    let free : (k : ℕ) → IsIn states k Free → IsOut (first + k) cs = λ k is. out_unless_used first states cs k Free free_differs filled.used is in (
+    let free : (k : ℕ) → IsIn states k Free → IsOut (first + k) cs =
+    λ k is. out_unless_used first states cs k Free free_differs filled.used is in (
       rules_data n (typed_of m) volume.rules,
       record {
         free_stored = free;
@@ -168,22 +182,30 @@ held_found n m states volume filled =
       },
     )
 
-pub lawful_found : (n : ℕ) (m : Map) (r : Records) → IsVolume n m → AreRecordsOf (typed_of m) r → IsVolumeRecord (volume_record r.next_id)
-lawful_found n m r volume are = subst (λ (o : Option VolumeRecord). IsSomeAnd o IsVolumeRecord) are.volume volume.rules.records.volume
-
-pub settled_found : (ends : JobEnds) (r : LastResults) → ends ≡ ends_from r → staged_results ends ≡ results_now ends
-settled_found ends r is = ap staged_results is ∙ sym (ap results_now is)
+pub lawful_found : (n : ℕ) (m : Map) (r : Records) → IsVolume n m → AreRecordsOf (typed_of m) r
+    → IsVolumeRecord (volume_record r.next_id)
+lawful_found n m r volume are = subst (λ (o : Option VolumeRecord). IsSomeAnd o IsVolumeRecord) are.volume
+    volume.rules.records.volume
 
 -- the results of the tables are those in memory
-pub results_found : (n : ℕ) (m : Map) (r : Records) → T (is_sorted bytes_cmp m) → IsVolume n m → AreRecordsOf (typed_of m) r
+pub results_found : (n : ℕ) (m : Map) (r : Records) → T (is_sorted bytes_cmp m) → IsVolume n m
+    → AreRecordsOf (typed_of m) r
     → with_ends (ends_from r.results) (typed_of m) ≡ typed_of m
 results_found n m r sorted volume are =
-    let there : typed result_codec m ≡ staged_results (ends_from r.results) = (contents_found n m r sorted volume are).ends_there in
+    let there : typed result_codec m ≡ staged_results (ends_from r.results) =
+    (contents_found n m r sorted volume are).ends_there in
     ap (λ (es : List (JobKind × ResultRecord)). record (typed_of m) { results = es }) (sym there)
+
+pub rules_found : (n : ℕ) (m : Map) (r : Records) → T (is_sorted bytes_cmp m) → IsVolume n m
+    → AreRecordsOf (typed_of m) r
+    → RulesHold n (with_ends (ends_from r.results) (typed_of m))
+rules_found n m r sorted volume are = subst (λ (t : Typed). RulesHold n t)
+    (sym (results_found n m r sorted volume are)) volume.rules
 
 -- ---- the journal's refusals
 
-pub log_refused : (n : ℕ) (old new : DiskState) (fault : MetaFault) → ((h : ℕ) → fault ≡ Damaged h → IsTrue old.tells → read_meta n old.image ≡ Err h)
+pub log_refused : (n : ℕ) (old new : DiskState) (fault : MetaFault)
+    → ((h : ℕ) → fault ≡ Damaged h → IsTrue old.tells → read_meta n old.image ≡ Err h)
     → (fault ≡ MetaFailed → Rose old.faults new.faults) → IsLogFault n old new (mount_fault_of fault)
 log_refused n old new GroupFull damaged failed = tt
 log_refused n old new TableFull damaged failed = tt

@@ -36,7 +36,8 @@ use Rattle.volume_tables.specs.Formats.{IsCommitted, IsFormatFault}
 some_pairs : [] ≡ fresh_map → ⊥
 some_pairs is = cc
 
-pub committed : (at half at₁ half₁ : ℕ) (s : DiskState) (image : List ℕ) (n : Map) (c : List ℕ) → at₁ ≡ at → half₁ ≡ half → n ≡ fresh_map → s.image ≡ image
+pub committed : (at half at₁ half₁ : ℕ) (s : DiskState) (image : List ℕ) (n : Map) (c : List ℕ) → at₁ ≡ at
+    → half₁ ≡ half → n ≡ fresh_map → s.image ≡ image
     → IsSettledImage at₁ half₁ s [] n c → IsCommitted at half image c
 committed at half at₁ half₁ s image n c same_at same_half is same settled = record {
   spells = (λ i. meta_of (sym same_at i) (sym same_half i) c) ∙ settled.0 ∙ ap (λ (m : Map). Ok m) is;
@@ -46,7 +47,8 @@ committed at half at₁ half₁ s image n c same_at same_half is same settled = 
     by : ChangedWithin at₁ (2 * half₁) s.image c ⊎ (s.may_leave c × ([] ≡ n)) → ChangedWithin at (2 * half) image c
     by (inl change) =
         subst (λ (q : List ℕ). ChangedWithin at (2 * half) q c) same
-        (subst (λ (k : ℕ). ChangedWithin at (2 * k) s.image c) same_half (subst (λ (k : ℕ). ChangedWithin k (2 * half₁) s.image c) same_at change))
+        (subst (λ (k : ℕ). ChangedWithin at (2 * k) s.image c) same_half
+        (subst (λ (k : ℕ). ChangedWithin k (2 * half₁) s.image c) same_at change))
     by (inr old) = absurd (some_pairs (old.1 ∙ is))
 
 -- ---- the tables of the map
@@ -60,30 +62,40 @@ fresh_sorted_at m is = subst (λ (q : Map). T (is_sorted bytes_cmp q)) (sym is) 
 pub fresh_tables_at : (m : Map) → m ≡ fresh_map → typed_of m ≡ fresh_tables
 fresh_tables_at m is = ap typed_of is ∙ fresh_typed
 
-pub fresh_records_at : (m : Map) (r : Records) → m ≡ fresh_map → AreRecordsOf fresh_tables r → AreRecordsOf (typed_of m) r
+pub fresh_records_at : (m : Map) (r : Records) → m ≡ fresh_map → AreRecordsOf fresh_tables r
+    → AreRecordsOf (typed_of m) r
 fresh_records_at m r is are = subst (λ (t : Typed). AreRecordsOf t r) (sym (fresh_tables_at m is)) are
 
-pub fresh_space_at : (n : ℕ) (m : Map) (states : List State) → m ≡ fresh_map → IsFilled n [] states → IsFilled n (clusters_of (typed_of m)) states
-fresh_space_at n m states is filled = subst (λ (t : Typed). IsFilled n (clusters_of t) states) (sym (fresh_tables_at m is)) filled
+pub fresh_space_at : (n : ℕ) (m : Map) (states : List State) → m ≡ fresh_map → IsFilled n [] states
+    → IsFilled n (clusters_of (typed_of m)) states
+fresh_space_at n m states is filled = subst (λ (t : Typed). IsFilled n (clusters_of t) states)
+    (sym (fresh_tables_at m is)) filled
 
 pub empty_space : (n : ℕ) (states : List State) → states ≡ replicate (data_clusters n) Free → IsFilled n [] states
 empty_space n states is = subst (λ (q : List State). IsFilled n [] q) (sym is) (record {
   size = length-replicate (data_clusters n) Free;
   used = tt;
-  free = λ k low out. record { within = omega (arith, low, length-replicate (data_clusters n) Free); state = get_or-replicate (data_clusters n) k Free Used low };
+  free = λ k low out. record {
+    within = omega (arith, low, length-replicate (data_clusters n) Free);
+    state =
+        get_or-replicate (data_clusters n) k Free Used low;
+  };
 })
 
 -- ---- what it shows
 
-pub superblock_on : (n at size : ℕ) (old c : List ℕ) → 4096 ≤ at → ChangedWithin at size old c → HasSuperblock n old → HasSuperblock n c
+pub superblock_on : (n at size : ℕ) (old c : List ℕ) → 4096 ≤ at → ChangedWithin at size old c → HasSuperblock n old
+    → HasSuperblock n c
 superblock_on n at size old c behind change has = record {
   whole = omega (arith, has.whole, change.size);
   is =
-      let front : part 0 4096 c ≡ part 0 4096 old = part_apart at size 0 4096 old c (inl (omega (arith, behind))) change in
+      let front : part 0 4096 c ≡ part 0 4096 old = part_apart at size 0 4096 old c
+      (inl (omega (arith, behind))) change in
       subst (λ (q : List ℕ). IsSuperblock n q) (sym front) has.is;
 }
 
-pub committed_shows : (n : ℕ) (image c : List ℕ) → HasSuperblock n image → length image ≡ 4096 * n → IsCommitted journal_at (half_bytes n) image c
+pub committed_shows : (n : ℕ) (image c : List ℕ) → HasSuperblock n image → length image ≡ 4096 * n
+    → IsCommitted journal_at (half_bytes n) image c
     → Shows (record { clusters = n; meta = meta_of journal_at (half_bytes n) }) [] c
 committed_shows n image c has size made =
     fresh_shows (record { clusters = n; meta = meta_of journal_at (half_bytes n) }) c fresh_map
@@ -101,22 +113,28 @@ module _ {D : Type 0} {d : Ghosts D} (t : Tables D d) (n : ℕ) (is : t.clusters
   }
 
   pub formatted_kept : (image : List ℕ) → HasSuperblock n image → length image ≡ 4096 * n
-      → ((c : List ℕ) → (disk_of t).may_leave c → IsCommitted journal_at (half_bytes n) image c) → Kept (area_of t) (disk_of t) []
+      → ((c : List ℕ) → (disk_of t).may_leave c → IsCommitted journal_at (half_bytes n) image c)
+      → Kept (area_of t) (disk_of t) []
   formatted_kept image has size settled = λ c left.
-      subst (λ (k : ℕ). Shows (record { clusters = k; meta = meta_of journal_at (half_bytes k) }) [] c) (sym is) (committed_shows n image c has size (settled c left))
+      subst (λ (k : ℕ). Shows (record { clusters = k; meta = meta_of journal_at (half_bytes k) }) [] c) (sym is)
+      (committed_shows n image c has size (settled c left))
 
-pub made_fault : (n : ℕ) (old middle new : DiskState) (fault : MountFault) → length old.image ≤ 4096 * n → old.faults ≤ middle.faults
+pub made_fault : (n : ℕ) (old middle new : DiskState) (fault : MountFault) → length old.image ≤ 4096 * n
+    → old.faults ≤ middle.faults
     → ((fault ≡ Failed) × Rose middle.faults new.faults) ⊎ (fault ≡ Memory) → IsFormatFault n old new fault
 made_fault n old middle new fault fits later (inl failed) =
     subst (λ (f : MountFault). IsFormatFault n old new f) (sym failed.0) (fits, omega (arith, failed.1, later))
-made_fault n old middle new fault fits later (inr memory) = subst (λ (f : MountFault). IsFormatFault n old new f) (sym memory) fits
+made_fault n old middle new fault fits later (inr memory) = subst (λ (f : MountFault). IsFormatFault n old new f)
+    (sym memory) fits
 
 -- ---- the superblock is written
 
-pub cluster_is : (n k : ℕ) (spelled text all : List ℕ) → ((rest : List ℕ) → IsSuperblock n (spelled ++ rest)) → text ≡ spelled → length text ≤ 4096
+pub cluster_is : (n k : ℕ) (spelled text all : List ℕ) → ((rest : List ℕ) → IsSuperblock n (spelled ++ rest))
+    → text ≡ spelled → length text ≤ 4096
     → all ≡ take 4096 text ++ replicate k 0 → IsSuperblock n all
 cluster_is n k spelled text all is same short made =
-    let whole : all ≡ spelled ++ replicate k 0 = made ∙ ap (λ (q : List ℕ). q ++ replicate k 0) (take_all 4096 text short ∙ same) in
+    let whole : all ≡ spelled ++ replicate k 0 = made
+    ∙ ap (λ (q : List ℕ). q ++ replicate k 0) (take_all 4096 text short ∙ same) in
     subst (λ (q : List ℕ). IsSuperblock n q) (sym whole) (is (replicate k 0))
 
 pub superblock_put : (n : ℕ) (superblock old new : List ℕ) → length superblock ≡ 4096 → IsSuperblock n superblock
@@ -125,6 +143,7 @@ superblock_put n superblock old new size is written whole = record {
   whole = whole;
   is =
       let rest = drop (0 + length superblock) old in
-      let front : part 0 4096 new ≡ superblock = ap (λ (q : List ℕ). take 4096 q) written ∙ take_at superblock rest 4096 size in
+      let front : part 0 4096 new ≡ superblock = ap (λ (q : List ℕ). take 4096 q) written
+      ∙ take_at superblock rest 4096 size in
       subst (λ (q : List ℕ). IsSuperblock n q) (sym front) is;
 }

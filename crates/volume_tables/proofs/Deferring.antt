@@ -1,5 +1,6 @@
 -- The clusters of the extents of a range, as they are deferred.
-use Rattle.std.specs.Prelude.{◌≡◌, ◌≢◌, ◌≤◌, ◌+◌, ◌-◌, ◌*◌, ℕ, Bool, true, false, cond, not, List, [], ◌∷◌, ◌++◌, length, slice_set, refl}
+use Rattle.std.specs.Prelude.{◌≡◌, ◌≢◌, ◌≤◌, ◌+◌, ◌-◌, ◌*◌, ℕ, Bool, true, false, cond, not, List, [], ◌∷◌, ◌++◌}
+use Rattle.std.specs.Prelude.{length, slice_set, refl}
 use Rattle.std.proofs.Common.{sym, ◌∙◌, subst, arith, length-set}
 use Rattle.std.proofs.lemmas.List.{get_or-set_other}
 use Rattle.std.specs.FinMap.Entries.{where_key}
@@ -39,14 +40,16 @@ out_kept : (ss : List ℕ) (test : FileBlock → Bool) (c : ℕ) (es : Entries) 
     → IsOut c (extent_clusters (where_key pair_cmp test es) ++ ss)
 out_kept ss test c [] out = out
 out_kept ss test c (x ∷ es) out =
-    elim (test x.0) as (λ b. IsOut c (extent_clusters (cond b (x ∷ where_key pair_cmp test es) (where_key pair_cmp test es)) ++ ss)) [
+    elim (test x.0) as (λ b. IsOut c (extent_clusters
+    (cond b (x ∷ where_key pair_cmp test es) (where_key pair_cmp test es)) ++ ss)) [
       | true ↦ (out.0, out_kept ss test c es out.1)
       | false ↦ out_kept ss test c es out.1
     ]
 
 -- ---- one cluster is deferred
 
-still_used : (first c : ℕ) (states : List State) (es : Entries) → first ≤ c → IsOut c (extent_clusters es) → AreUsedOnce first states es
+still_used : (first c : ℕ) (states : List State) (es : Entries) → first ≤ c → IsOut c (extent_clusters es)
+    → AreUsedOnce first states es
     → AreUsedOnce first (slice_set states (c - first) Deferred) es
 still_used first c states [] low out used = tt
 still_used first c states (e ∷ es) low out used =
@@ -62,7 +65,8 @@ still_used first c states (e ∷ es) low out used =
     )
 
 -- the clusters behind one stay used when it is deferred
-pub rest_used : (first : ℕ) (states : List State) (e : FileBlock × Extent) (es : Entries) → AreUsedOnce first states (e ∷ es)
+pub rest_used : (first : ℕ) (states : List State) (e : FileBlock × Extent) (es : Entries)
+    → AreUsedOnce first states (e ∷ es)
     → AreUsedOnce first (slice_set states (e.1.cluster - first) Deferred) es
 rest_used first states e es used = still_used first e.1.cluster states es used.0 used.1.1.0 used.1.1.1
 
@@ -72,14 +76,17 @@ all_no_freer first (e ∷ es) states = λ k at.
     set_no_freer states (e.1.cluster - first) Deferred deferred_is_not_free k
     (all_no_freer first es (slice_set states (e.1.cluster - first) Deferred) k at)
 
-pub all_length : (first : ℕ) (es : Entries) (states : List State) → length (all_deferred first es states) ≡ length states
+pub all_length : (first : ℕ) (es : Entries) (states : List State)
+    → length (all_deferred first es states) ≡ length states
 all_length first [] states = refl
 all_length first (e ∷ es) states =
-    all_length first es (slice_set states (e.1.cluster - first) Deferred) ∙ length-set states (e.1.cluster - first) Deferred
+    all_length first es (slice_set states (e.1.cluster - first) Deferred)
+    ∙ length-set states (e.1.cluster - first) Deferred
 
 -- ---- the clusters that tables name are used
 
-module _ (n : ℕ) (states : List State) (t : Typed) (held : AreHeld n states t) (size : length states ≡ data_clusters n) (test : FileBlock → Bool) where
+module _ (n : ℕ) (states : List State) (t : Typed) (held : AreHeld n states t) (size : length states ≡ data_clusters n)
+    (test : FileBlock → Bool) where
   used_in : (es : Entries) → ((c : ℕ) → IsOut c (clusters_of t) → IsOut c (extent_clusters es ++ base_clusters t))
       → AreData n (extent_clusters es ++ base_clusters t) → IsOnce (extent_clusters es ++ base_clusters t)
       → AreUsedOnce (first_data_cluster n) states (where_key pair_cmp test es)
@@ -89,10 +96,22 @@ module _ (n : ℕ) (states : List State) (t : Typed) (held : AreHeld n states t)
       let place : first_data_cluster n + (e.1.cluster - first_data_cluster n) ≡ e.1.cluster = omega (arith, low) in
       let rest = used_in es (λ c out. (part c out).1) in_data.1 once.1 in
       let here : IsIn states (e.1.cluster - first_data_cluster n) Used =
-      named_used (first_data_cluster n) states t t held.1 (e.1.cluster - first_data_cluster n) (omega (arith, low, in_data.0.within, size))
+      named_used (first_data_cluster n) states t t held.1 (e.1.cluster - first_data_cluster n)
+      (omega (arith, low, in_data.0.within, size))
       (λ out. (part e.1.cluster (subst (λ (x : ℕ). IsOut x (clusters_of t)) place out)).0 refl) in
-      elim (test e.0) as (λ b. AreUsedOnce (first_data_cluster n) states (cond b (e ∷ where_key pair_cmp test es) (where_key pair_cmp test es))) [
-        | true ↦ (low, (here, (front (extent_clusters (where_key pair_cmp test es)) (base_clusters t) e.1.cluster (out_kept (base_clusters t) test e.1.cluster es once.0), rest)))
+      elim (test e.0) as (λ b. AreUsedOnce (first_data_cluster n) states
+      (cond b (e ∷ where_key pair_cmp test es) (where_key pair_cmp test es))) [
+        | true ↦ (
+          low,
+          (
+            here,
+            (
+              front (extent_clusters (where_key pair_cmp test es)) (base_clusters t) e.1.cluster
+                  (out_kept (base_clusters t) test e.1.cluster es once.0),
+              rest,
+            ),
+          ),
+        )
         | false ↦ rest
       ]
     where
@@ -106,12 +125,14 @@ module _ (n : ℕ) (states : List State) (t : Typed) (held : AreHeld n states t)
 -- ---- the tables without these extents
 
 module _ (n : ℕ) (q : Typed) where
-  held_all_deferred : (es : Entries) (states : List State) → AreUsedOnce (first_data_cluster n) states es → AreOut es (clusters_of q)
+  held_all_deferred : (es : Entries) (states : List State) → AreUsedOnce (first_data_cluster n) states es
+      → AreOut es (clusters_of q)
       → AreHeld n states q → AreHeld n (all_deferred (first_data_cluster n) es states) q
   held_all_deferred [] states used out held = held
   held_all_deferred (e ∷ es) states used out held =
       let has : HasState n states Used e.1.cluster = record { from_first = used.0; is = used.1.0 } in
-      held_all_deferred es (slice_set states (e.1.cluster - first_data_cluster n) Deferred) (rest_used (first_data_cluster n) states e es used) out.1
+      held_all_deferred es (slice_set states (e.1.cluster - first_data_cluster n) Deferred)
+      (rest_used (first_data_cluster n) states e es used) out.1
       (held_deferred_at n states q held e.1.cluster Used has out.0)
 
 module _ (test : FileBlock → Bool) (ss : List ℕ) where
@@ -129,22 +150,29 @@ module _ (test : FileBlock → Bool) (ss : List ℕ) where
   parted (e ∷ es) once =
       let rest = parted es once.1 in
       elim (test e.0) as (λ b. AreOut (cond b (e ∷ where_key pair_cmp test es) (where_key pair_cmp test es))
-      (extent_clusters (cond (not b) (e ∷ where_key pair_cmp (λ k. not (test k)) es) (where_key pair_cmp (λ k. not (test k)) es)) ++ ss)) [
+      (extent_clusters (cond (not b) (e ∷ where_key pair_cmp (λ k. not (test k)) es)
+      (where_key pair_cmp (λ k. not (test k)) es)) ++ ss)) [
         | true ↦ (out_kept ss (λ k. not (test k)) e.1.cluster es once.0, rest)
-        | false ↦ out_one e.1.cluster (where_key pair_cmp test es) (extent_clusters (where_key pair_cmp (λ k. not (test k)) es) ++ ss)
-            (front_out e.1.cluster (extent_clusters (where_key pair_cmp test es)) (out_kept ss test e.1.cluster es once.0)) rest
+        | false ↦ out_one e.1.cluster (where_key pair_cmp test es)
+            (extent_clusters (where_key pair_cmp (λ k. not (test k)) es) ++ ss)
+            (front_out e.1.cluster (extent_clusters (where_key pair_cmp test es))
+            (out_kept ss test e.1.cluster es once.0)) rest
       ]
 
 -- extents are dropped and their clusters deferred
-pub held_dropped : (n : ℕ) (states : List State) (t : Typed) → AreHeld n states t → length states ≡ data_clusters n → (test : FileBlock → Bool)
-    → AreHeld n (all_deferred (first_data_cluster n) (where_key pair_cmp test t.extents) states) (keep_extents (λ k. not (test k)) t)
+pub held_dropped : (n : ℕ) (states : List State) (t : Typed) → AreHeld n states t → length states ≡ data_clusters n
+    → (test : FileBlock → Bool)
+    → AreHeld n (all_deferred (first_data_cluster n) (where_key pair_cmp test t.extents) states)
+    (keep_extents (λ k. not (test k)) t)
 held_dropped n states t held size test =
     held_all_deferred n (keep_extents (λ k. not (test k)) t) (where_key pair_cmp test t.extents) states
-    (held_used_once n states t held size test) (parted test (base_clusters t) t.extents held.1.once) (held_kept n states t held (λ k. not (test k)))
+    (held_used_once n states t held size test) (parted test (base_clusters t) t.extents held.1.once)
+    (held_kept n states t held (λ k. not (test k)))
 
 module _ {D : Type 0} {d : Ghosts D} where
   -- a call that stages and frees no cluster
-  pub drop_leaves : (t s : Tables D d) → IsQuiet t.log s.log → s.clusters ≡ t.clusters → IsNoFreer t.space s.space → s.worn ≡ t.worn
+  pub drop_leaves : (t s : Tables D d) → IsQuiet t.log s.log → s.clusters ≡ t.clusters → IsNoFreer t.space s.space
+      → s.worn ≡ t.worn
       → d.is_same t.log.disk t.log.disk → Leaves t s
   drop_leaves t s quiet clusters fewer worn self = record {
     clusters = clusters;
@@ -152,10 +180,13 @@ module _ {D : Type 0} {d : Ghosts D} where
       map = is.map;
       log = quiet.log is.map is.log;
       is = is.is;
-      stored_apart = subst (λ (n : ℕ). IsApart journal_at (2 * half_bytes n) (named stored)) (sym clusters) is.stored_apart;
-      free = λ k at. subst (λ (n : ℕ). IsOut (first_data_cluster n + k) (clusters_of stored)) (sym clusters) (is.free k (fewer k at));
+      stored_apart = subst (λ (n : ℕ). IsApart journal_at (2 * half_bytes n) (named stored))
+          (sym clusters) is.stored_apart;
+      free = λ k at. subst (λ (n : ℕ). IsOut (first_data_cluster n + k) (clusters_of stored)) (sym clusters)
+          (is.free k (fewer k at));
     };
-    moments = λ stored w is kept. subst (λ (x : D). Keeps (disk_of t) (d.state x) (Shows (area_of t) w)) (sym quiet.disk) (keeps_start (disk_of t) (Shows (area_of t) w) kept);
+    moments = λ stored w is kept. subst (λ (x : D). Keeps (disk_of t) (d.state x) (Shows (area_of t) w))
+        (sym quiet.disk) (keeps_start (disk_of t) (Shows (area_of t) w) kept);
     same = subst (λ (x : D). d.is_same t.log.disk x) (sym quiet.disk) self;
     later = subst (λ (x : D). (disk_of t).faults ≤ (d.state x).faults) (sym quiet.disk) (omega arith);
     place = quiet.place.next;

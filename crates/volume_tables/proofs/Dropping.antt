@@ -20,17 +20,20 @@ use Rattle.volume_tables.specs.Dropped.{extents_in, extents_above}
 abbrev Entries : Type 0
 Entries = List (FileBlock × Extent)
 
-where_both : (p q : FileBlock → Bool) (es : Entries) → where_key pair_cmp (λ k. p k && q k) es ≡ where_key pair_cmp q (where_key pair_cmp p es)
+where_both : (p q : FileBlock → Bool) (es : Entries)
+    → where_key pair_cmp (λ k. p k && q k) es ≡ where_key pair_cmp q (where_key pair_cmp p es)
 where_both p q [] = refl
 where_both p q (e ∷ es) =
     let rest = where_both p q es in
-    elim (p e.0) as (λ b. cond (b && q e.0) (e ∷ where_key pair_cmp (λ k. p k && q k) es) (where_key pair_cmp (λ k. p k && q k) es)
+    elim (p e.0) as (λ b. cond (b && q e.0) (e ∷ where_key pair_cmp (λ k. p k && q k) es)
+    (where_key pair_cmp (λ k. p k && q k) es)
     ≡ where_key pair_cmp q (cond b (e ∷ where_key pair_cmp p es) (where_key pair_cmp p es))) [
       | true ↦ ap (λ (l : Entries). cond (q e.0) (e ∷ l) l) rest
       | false ↦ rest
     ]
 
-where_alike : (p q : FileBlock → Bool) → ((k : FileBlock) → p k ≡ q k) → (es : Entries) → where_key pair_cmp p es ≡ where_key pair_cmp q es
+where_alike : (p q : FileBlock → Bool) → ((k : FileBlock) → p k ≡ q k) → (es : Entries)
+    → where_key pair_cmp p es ≡ where_key pair_cmp q es
 where_alike p q alike es = λ i. where_key pair_cmp (λ k. alike k i) es
 
 all_gone : (es : Entries) → where_key pair_cmp (λ k. false) es ≡ []
@@ -38,30 +41,36 @@ all_gone [] = refl
 all_gone (e ∷ es) = all_gone es
 
 -- an entry whose key passes a test, or fails it
-kept_first : (p : FileBlock → Bool) (e : FileBlock × Extent) (es : Entries) → p e.0 ≡ true → where_key pair_cmp p (e ∷ es) ≡ e ∷ where_key pair_cmp p es
+kept_first : (p : FileBlock → Bool) (e : FileBlock × Extent) (es : Entries) → p e.0 ≡ true
+    → where_key pair_cmp p (e ∷ es) ≡ e ∷ where_key pair_cmp p es
 kept_first p e es is = ap (λ (b : Bool). cond b (e ∷ where_key pair_cmp p es) (where_key pair_cmp p es)) is
 
-gone_first : (p : FileBlock → Bool) (e : FileBlock × Extent) (es : Entries) → p e.0 ≡ false → where_key pair_cmp p (e ∷ es) ≡ where_key pair_cmp p es
+gone_first : (p : FileBlock → Bool) (e : FileBlock × Extent) (es : Entries) → p e.0 ≡ false
+    → where_key pair_cmp p (e ∷ es) ≡ where_key pair_cmp p es
 gone_first p e es is = ap (λ (b : Bool). cond b (e ∷ where_key pair_cmp p es) (where_key pair_cmp p es)) is
 
-above_all : (k : FileBlock) (es : Entries) → T (below_all pair_cmp k es) → where_key pair_cmp (λ x. is_lt (pair_cmp k x)) es ≡ es
+above_all : (k : FileBlock) (es : Entries) → T (below_all pair_cmp k es)
+    → where_key pair_cmp (λ x. is_lt (pair_cmp k x)) es ≡ es
 above_all k [] low = refl
 above_all k (e ∷ es) low =
     kept_first (λ x. is_lt (pair_cmp k x)) e es (ap is_lt (is_less (pair_cmp k e.0) (first_holds _ _ low)))
     ∙ ap (λ (l : Entries). e ∷ l) (above_all k es (second_holds (is_lt (pair_cmp k e.0)) _ low))
 
-from_all : (k : FileBlock) (es : Entries) → T (below_all pair_cmp k es) → where_key pair_cmp (λ x. is_le (pair_cmp k x)) es ≡ es
+from_all : (k : FileBlock) (es : Entries) → T (below_all pair_cmp k es)
+    → where_key pair_cmp (λ x. is_le (pair_cmp k x)) es ≡ es
 from_all k [] low = refl
 from_all k (e ∷ es) low =
     kept_first (λ x. is_le (pair_cmp k x)) e es (ap is_le (is_less (pair_cmp k e.0) (first_holds _ _ low)))
     ∙ ap (λ (l : Entries). e ∷ l) (from_all k es (second_holds (is_lt (pair_cmp k e.0)) _ low))
 
-low_above : (k : FileBlock) (es : Entries) → T (below_all pair_cmp k (where_key pair_cmp (λ x. is_lt (pair_cmp k x)) es))
+low_above : (k : FileBlock) (es : Entries) → T
+    (below_all pair_cmp k (where_key pair_cmp (λ x. is_lt (pair_cmp k x)) es))
 low_above k [] = tt
 low_above k (e ∷ es) =
     let rest = low_above k es in
     elim (is_lt (pair_cmp k e.0)) as (λ t. is_lt (pair_cmp k e.0) ≡ t
-    → T (below_all pair_cmp k (cond t (e ∷ where_key pair_cmp (λ x. is_lt (pair_cmp k x)) es) (where_key pair_cmp (λ x. is_lt (pair_cmp k x)) es)))) [
+    → T (below_all pair_cmp k (cond t (e ∷ where_key pair_cmp (λ x. is_lt (pair_cmp k x)) es)
+    (where_key pair_cmp (λ x. is_lt (pair_cmp k x)) es)))) [
       | true ↦ λ t. both_hold (is_lt (pair_cmp k e.0)) _ (subst (λ (s : Bool). T s) (sym t) tt) rest
       | false ↦ λ t. rest
     ] refl
@@ -77,7 +86,8 @@ nat_exact x y is = by (nat_cmp x y) (ranks x y) is
 pair_exact : (a b : FileBlock) → pair_cmp a b ≡ Equal → a ≡ b
 pair_exact a b is = by (nat_cmp a.0 b.0) (ranks a.0 b.0) is
   where
-    by : (r : Ordering) → MatchOrdering r (a.0 < b.0) (a.0 ≡ b.0) (b.0 < a.0) → ordering_then r (nat_cmp a.1 b.1) ≡ Equal → a ≡ b
+    by : (r : Ordering) → MatchOrdering r (a.0 < b.0) (a.0 ≡ b.0) (b.0 < a.0)
+        → ordering_then r (nat_cmp a.1 b.1) ≡ Equal → a ≡ b
     by Less h e = absurd (cc)
     by Equal h e = λ i. (h i, nat_exact a.1 b.1 e i)
     by Greater h e = absurd (cc)
@@ -91,7 +101,8 @@ not_self k = by (pair_cmp k k) refl
     by Greater is = refl
 
 -- what is above a greater key is above this one
-both_above : (a k x : FileBlock) → pair_cmp a k ≡ Less → is_lt (pair_cmp k x) ≡ (is_lt (pair_cmp a x) && is_lt (pair_cmp k x))
+both_above : (a k x : FileBlock) → pair_cmp a k ≡ Less
+    → is_lt (pair_cmp k x) ≡ (is_lt (pair_cmp a x) && is_lt (pair_cmp k x))
 both_above a k x less = by (pair_cmp k x) refl
   where
     ends : (b : Bool) → false ≡ (b && false)
@@ -105,7 +116,8 @@ both_above a k x less = by (pair_cmp k x) refl
 
 -- ---- the end of a range
 
-under_stays : (to : Option FileBlock) (k x : FileBlock) → is_under pair_cmp to k ≡ false → pair_cmp k x ≡ Less → is_under pair_cmp to x ≡ false
+under_stays : (to : Option FileBlock) (k x : FileBlock) → is_under pair_cmp to k ≡ false → pair_cmp k x ≡ Less
+    → is_under pair_cmp to x ≡ false
 under_stays None k x past less = absurd (let clash : true ≡ false = past in cc)
 under_stays (Some t) k x past less = by (pair_cmp x t) refl
   where
@@ -114,11 +126,13 @@ under_stays (Some t) k x past less = by (pair_cmp x t) refl
     by Equal is = refl
     by Greater is = refl
 
-none_under : (to : Option FileBlock) (k : FileBlock) (es : Entries) → is_under pair_cmp to k ≡ false → T (below_all pair_cmp k es)
+none_under : (to : Option FileBlock) (k : FileBlock) (es : Entries) → is_under pair_cmp to k ≡ false
+    → T (below_all pair_cmp k es)
     → where_key pair_cmp (λ x. is_under pair_cmp to x) es ≡ []
 none_under to k [] past low = refl
 none_under to k (e ∷ es) past low =
-    gone_first (λ x. is_under pair_cmp to x) e es (under_stays to k e.0 past (is_less (pair_cmp k e.0) (first_holds _ _ low)))
+    gone_first (λ x. is_under pair_cmp to x) e es
+    (under_stays to k e.0 past (is_less (pair_cmp k e.0) (first_holds _ _ low)))
     ∙ none_under to k es past (second_holds (is_lt (pair_cmp k e.0)) _ low)
 
 -- ---- the next extent of a range
@@ -127,22 +141,27 @@ module _ (a : FileBlock) (to : Option FileBlock) (es : Entries) (sorted : T (is_
   higher : Entries
   higher = where_key pair_cmp (λ x. is_lt (pair_cmp a x)) es
 
-  under_higher : extents_above a to es ≡ where_key pair_cmp (λ x. is_under pair_cmp to x) (where_key pair_cmp (λ x. is_lt (pair_cmp a x)) es)
+  under_higher : extents_above a to es ≡ where_key pair_cmp (λ x. is_under pair_cmp to x)
+      (where_key pair_cmp (λ x. is_lt (pair_cmp a x)) es)
   under_higher = where_both (λ x. is_lt (pair_cmp a x)) (λ x. is_under pair_cmp to x) es
 
-  module _ (z : FileBlock × Extent) (zs : Entries) (is : where_key pair_cmp (λ x. is_lt (pair_cmp a x)) es ≡ z ∷ zs) where
+  module _ (z : FileBlock × Extent) (zs : Entries)
+      (is : where_key pair_cmp (λ x. is_lt (pair_cmp a x)) es ≡ z ∷ zs) where
     order : T (is_sorted pair_cmp (z ∷ zs))
-    order = subst (λ (l : Entries). T (is_sorted pair_cmp l)) is (is_sorted-where_key pair_cmp (λ x. is_lt (pair_cmp a x)) es sorted)
+    order = subst (λ (l : Entries). T (is_sorted pair_cmp l)) is
+        (is_sorted-where_key pair_cmp (λ x. is_lt (pair_cmp a x)) es sorted)
 
     low : T (below_all pair_cmp z.0 zs)
     low = first_holds (below_all pair_cmp z.0 zs) _ order
 
     less : pair_cmp a z.0 ≡ Less
-    less = is_less (pair_cmp a z.0) (first_holds _ (below_all pair_cmp a zs) (subst (λ (l : Entries). T (below_all pair_cmp a l)) is (low_above a es)))
+    less = is_less (pair_cmp a z.0) (first_holds _ (below_all pair_cmp a zs)
+        (subst (λ (l : Entries). T (below_all pair_cmp a l)) is (low_above a es)))
 
     behind : where_key pair_cmp (λ x. is_lt (pair_cmp z.0 x)) es ≡ zs
     behind =
-        where_alike (λ x. is_lt (pair_cmp z.0 x)) (λ x. is_lt (pair_cmp a x) && is_lt (pair_cmp z.0 x)) (λ x. both_above a z.0 x less) es
+        where_alike (λ x. is_lt (pair_cmp z.0 x)) (λ x. is_lt (pair_cmp a x) && is_lt (pair_cmp z.0 x))
+        (λ x. both_above a z.0 x less) es
         ∙ where_both (λ x. is_lt (pair_cmp a x)) (λ x. is_lt (pair_cmp z.0 x)) es
         ∙ ap (λ (l : Entries). where_key pair_cmp (λ x. is_lt (pair_cmp z.0 x)) l) is
         ∙ gone_first (λ x. is_lt (pair_cmp z.0 x)) z zs (not_self z.0)
@@ -163,37 +182,47 @@ module _ (a : FileBlock) (to : Option FileBlock) (es : Entries) (sorted : T (is_
         ∙ sym (ap (λ (l : Entries). where_key pair_cmp (λ x. is_under pair_cmp to x) l) is)
         ∙ sym under_higher
 
-  pub next_left : (y : FileBlock × Extent) → next_in pair_cmp a es ≡ Some y → is_under pair_cmp to y.0 ≡ true → y ∷ extents_above y.0 to es ≡ extents_above a to es
+  pub next_left : (y : FileBlock × Extent) → next_in pair_cmp a es ≡ Some y → is_under pair_cmp to y.0 ≡ true
+      → y ∷ extents_above y.0 to es ≡ extents_above a to es
   next_left y next under = by (where_key pair_cmp (λ x. is_lt (pair_cmp a x)) es) refl next
     where
-      by : (l : Entries) → where_key pair_cmp (λ x. is_lt (pair_cmp a x)) es ≡ l → first_of l ≡ Some y → y ∷ extents_above y.0 to es ≡ extents_above a to es
+      by : (l : Entries) → where_key pair_cmp (λ x. is_lt (pair_cmp a x)) es ≡ l → first_of l ≡ Some y
+          → y ∷ extents_above y.0 to es ≡ extents_above a to es
       by [] is first = absurd (let clash : None ≡ Some y = first in cc)
       by (z ∷ zs) is first =
           let same : z ≡ y = cc in
-          subst (λ (x : FileBlock × Extent). is_under pair_cmp to x.0 ≡ true → x ∷ extents_above x.0 to es ≡ extents_above a to es) same (here_left z zs is) under
+          subst (λ (x : FileBlock × Extent). is_under pair_cmp to x.0 ≡ true
+          → x ∷ extents_above x.0 to es ≡ extents_above a to es) same (here_left z zs is) under
 
-  pub next_past : (y : FileBlock × Extent) → next_in pair_cmp a es ≡ Some y → is_under pair_cmp to y.0 ≡ false → [] ≡ extents_above a to es
+  pub next_past : (y : FileBlock × Extent) → next_in pair_cmp a es ≡ Some y → is_under pair_cmp to y.0 ≡ false
+      → [] ≡ extents_above a to es
   next_past y next under = by (where_key pair_cmp (λ x. is_lt (pair_cmp a x)) es) refl next
     where
-      by : (l : Entries) → where_key pair_cmp (λ x. is_lt (pair_cmp a x)) es ≡ l → first_of l ≡ Some y → [] ≡ extents_above a to es
+      by : (l : Entries) → where_key pair_cmp (λ x. is_lt (pair_cmp a x)) es ≡ l → first_of l ≡ Some y
+          → [] ≡ extents_above a to es
       by [] is first = absurd (let clash : None ≡ Some y = first in cc)
       by (z ∷ zs) is first =
           let same : z ≡ y = cc in
-          subst (λ (x : FileBlock × Extent). is_under pair_cmp to x.0 ≡ false → [] ≡ extents_above a to es) same (none_left z zs is) under
+          subst (λ (x : FileBlock × Extent). is_under pair_cmp to x.0 ≡ false → [] ≡ extents_above a to es) same
+          (none_left z zs is) under
 
   pub next_none : next_in pair_cmp a es ≡ None → [] ≡ extents_above a to es
   next_none next = by (where_key pair_cmp (λ x. is_lt (pair_cmp a x)) es) refl next
     where
-      by : (l : Entries) → where_key pair_cmp (λ x. is_lt (pair_cmp a x)) es ≡ l → first_of l ≡ None → [] ≡ extents_above a to es
-      by [] is first = sym (ap (λ (l : Entries). where_key pair_cmp (λ x. is_under pair_cmp to x) l) is) ∙ sym under_higher
+      by : (l : Entries) → where_key pair_cmp (λ x. is_lt (pair_cmp a x)) es ≡ l → first_of l ≡ None
+          → [] ≡ extents_above a to es
+      by [] is first = sym (ap (λ (l : Entries). where_key pair_cmp (λ x. is_under pair_cmp to x) l) is)
+          ∙ sym under_higher
       by (z ∷ zs) is first = absurd (let clash : Some z ≡ None = first in cc)
 
 -- ---- the first extent of a range
 
-lower_find : (k y : FileBlock) (es : Entries) → pair_cmp k y ≡ Less → T (below_all pair_cmp y es) → find pair_cmp k es ≡ None
+lower_find : (k y : FileBlock) (es : Entries) → pair_cmp k y ≡ Less → T (below_all pair_cmp y es)
+    → find pair_cmp k es ≡ None
 lower_find k y [] before rise = refl
 lower_find k y (e ∷ es) before rise =
-    ap (λ (r : Ordering). cond (is_eq r) (Some e.1) (find pair_cmp k es)) (pair_total.trans k y e.0 before (is_less (pair_cmp y e.0) (first_holds _ _ rise)))
+    ap (λ (r : Ordering). cond (is_eq r) (Some e.1) (find pair_cmp k es))
+    (pair_total.trans k y e.0 before (is_less (pair_cmp y e.0) (first_holds _ _ rise)))
     ∙ lower_find k y es before (second_holds (is_lt (pair_cmp y e.0)) _ rise)
 
 -- the entries from a key that is found on
@@ -207,9 +236,12 @@ from_found k o (e ∷ es) sorted found =
     low = first_holds (below_all pair_cmp e.0 es) _ sorted
 
     by : (r : Ordering) → pair_cmp k e.0 ≡ r → cond (is_eq r) (Some e.1) (find pair_cmp k es) ≡ Some o
-        → (find pair_cmp k es ≡ Some o → where_key pair_cmp (λ x. is_le (pair_cmp k x)) es ≡ (k, o) ∷ where_key pair_cmp (λ x. is_lt (pair_cmp k x)) es)
-        → where_key pair_cmp (λ x. is_le (pair_cmp k x)) (e ∷ es) ≡ (k, o) ∷ where_key pair_cmp (λ x. is_lt (pair_cmp k x)) (e ∷ es)
-    by Less is at rest = absurd (let none = lower_find k e.0 es is low in let clash : Some o ≡ None = sym at ∙ none in cc)
+        → (find pair_cmp k es ≡ Some o → where_key pair_cmp (λ x. is_le (pair_cmp k x)) es ≡ (k, o) ∷ where_key pair_cmp
+        (λ x. is_lt (pair_cmp k x)) es)
+        → where_key pair_cmp (λ x. is_le (pair_cmp k x)) (e ∷ es) ≡ (k, o) ∷ where_key pair_cmp
+        (λ x. is_lt (pair_cmp k x)) (e ∷ es)
+    by Less is at rest = absurd (let none = lower_find k e.0 es is low in let clash : Some o ≡ None = sym at
+        ∙ none in cc)
     by Equal is at rest =
         let key : k ≡ e.0 = pair_exact k e.0 is in
         let value : e.1 ≡ o = cc in
@@ -217,7 +249,8 @@ from_found k o (e ∷ es) sorted found =
         kept_first (λ x. is_le (pair_cmp k x)) e es (ap is_le is)
         ∙ ap (λ (l : Entries). e ∷ l) (from_all k es mine)
         ∙ (λ i. (sym key i, value i) ∷ es)
-        ∙ ap (λ (l : Entries). (k, o) ∷ l) (sym (above_all k es mine) ∙ sym (gone_first (λ x. is_lt (pair_cmp k x)) e es (ap is_lt is)))
+        ∙ ap (λ (l : Entries). (k, o) ∷ l) (sym (above_all k es mine)
+        ∙ sym (gone_first (λ x. is_lt (pair_cmp k x)) e es (ap is_lt is)))
     by Greater is at rest =
         gone_first (λ x. is_le (pair_cmp k x)) e es (ap is_le is)
         ∙ rest at
@@ -230,8 +263,10 @@ from_absent k [] none = refl
 from_absent k (e ∷ es) none = by (pair_cmp k e.0) refl none (λ at. from_absent k es at)
   where
     by : (r : Ordering) → pair_cmp k e.0 ≡ r → cond (is_eq r) (Some e.1) (find pair_cmp k es) ≡ None
-        → (find pair_cmp k es ≡ None → where_key pair_cmp (λ x. is_le (pair_cmp k x)) es ≡ where_key pair_cmp (λ x. is_lt (pair_cmp k x)) es)
-        → where_key pair_cmp (λ x. is_le (pair_cmp k x)) (e ∷ es) ≡ where_key pair_cmp (λ x. is_lt (pair_cmp k x)) (e ∷ es)
+        → (find pair_cmp k es ≡ None → where_key pair_cmp (λ x. is_le (pair_cmp k x)) es ≡ where_key pair_cmp
+        (λ x. is_lt (pair_cmp k x)) es)
+        → where_key pair_cmp (λ x. is_le (pair_cmp k x)) (e ∷ es) ≡ where_key pair_cmp (λ x. is_lt (pair_cmp k x))
+        (e ∷ es)
     by Less is at rest =
         kept_first (λ x. is_le (pair_cmp k x)) e es (ap is_le is)
         ∙ ap (λ (l : Entries). e ∷ l) (rest at)
@@ -249,7 +284,8 @@ module _ (k : FileBlock) (to : Option FileBlock) (es : Entries) where
       ∙ sym (ap (λ (l : Entries). where_key pair_cmp (λ x. is_under pair_cmp to x) l) (from_absent k es none))
       ∙ sym (where_both (λ x. is_le (pair_cmp k x)) (λ x. is_under pair_cmp to x) es)
 
-  pub first_left : (o : Extent) → T (is_sorted pair_cmp es) → find pair_cmp k es ≡ Some o → is_under pair_cmp to k ≡ true
+  pub first_left : (o : Extent) → T (is_sorted pair_cmp es) → find pair_cmp k es ≡ Some o
+      → is_under pair_cmp to k ≡ true
       → (k, o) ∷ extents_above k to es ≡ extents_in k to es
   first_left o sorted found under =
       ap (λ (l : Entries). (k, o) ∷ l) (where_both (λ x. is_lt (pair_cmp k x)) (λ x. is_under pair_cmp to x) es)

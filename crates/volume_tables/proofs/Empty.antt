@@ -13,11 +13,13 @@ none_empty (x ∷ a) (([], v) ∷ es) low = absurd low
 none_empty a ((y ∷ b, v) ∷ es) low = none_empty a es (second_holds (is_lt (bytes_cmp a (y ∷ b))) _ low)
 
 -- where it is a name it is the first one
-pub first_empty : (es : List (List ℕ × ℕ)) (v : ℕ) → T (is_sorted bytes_cmp es) → find bytes_cmp [] es ≡ Some v → first_of es ≡ Some ([], v)
+pub first_empty : (es : List (List ℕ × ℕ)) (v : ℕ) → T (is_sorted bytes_cmp es) → find bytes_cmp [] es ≡ Some v
+    → first_of es ≡ Some ([], v)
 first_empty [] v sorted found = absurd (cc)
 first_empty (([], w) ∷ es) v sorted found = ap (λ (o : Option ℕ). entry o) found
   where
     entry : Option ℕ → Option (List ℕ × ℕ)
     entry None = None
     entry (Some x) = Some ([], x)
-first_empty ((y ∷ b, w) ∷ es) v sorted found = absurd (let none = none_empty (y ∷ b) es (first_holds _ _ sorted) in let clash : Some v ≡ None = sym found ∙ none in cc)
+first_empty ((y ∷ b, w) ∷ es) v sorted found = absurd
+    (let none = none_empty (y ∷ b) es (first_holds _ _ sorted) in let clash : Some v ≡ None = sym found ∙ none in cc)

@@ -7,19 +7,29 @@ use Rattle.meta_log.specs.Opened.{IsOnlyRead}
 use Rattle.volume_inside.specs.Superblock.{IsSuperblock, HasSuperblock}
 use Rattle.volume_inside.proofs.Superblocks.{superblock_of_front, front_of_superblock}
 
-pub superblock_here : (n : ℕ) (bytes image : List ℕ) → bytes ≡ take 44 (drop 0 image) → 4096 ≤ length image → IsSuperblock n bytes → HasSuperblock n image
+pub superblock_here : (n : ℕ) (bytes image : List ℕ) → bytes ≡ take 44 (drop 0 image) → 4096 ≤ length image
+    → IsSuperblock n bytes → HasSuperblock n image
 superblock_here n bytes image read whole is = record {
   whole = whole;
-  is = front_of_superblock n 4096 image (omega arith) (superblock_of_front n 44 image (omega arith) (subst (λ (b : List ℕ). IsSuperblock n b) read is));
+  is = front_of_superblock n 4096 image (omega arith)
+      (superblock_of_front n 44 image (omega arith) (subst (λ (b : List ℕ). IsSuperblock n b) read is));
 }
 
-pub superblock_there : (n : ℕ) (bytes image : List ℕ) → bytes ≡ take 44 (drop 0 image) → HasSuperblock n image → IsSuperblock n bytes
+pub superblock_there : (n : ℕ) (bytes image : List ℕ) → bytes ≡ take 44 (drop 0 image) → HasSuperblock n image
+    → IsSuperblock n bytes
 superblock_there n bytes image read has =
-    subst (λ (b : List ℕ). IsSuperblock n b) (sym read) (front_of_superblock n 44 image (omega arith) (superblock_of_front n 4096 image (omega arith) has.is))
+    subst (λ (b : List ℕ). IsSuperblock n b) (sym read)
+    (front_of_superblock n 44 image (omega arith) (superblock_of_front n 4096 image (omega arith) has.is))
 
 -- a sync is only read after
-pub synced : (a b : DiskState) → Elapses a b → ((c : List ℕ) → b.may_leave c → a.may_leave c) → b.image ≡ a.image → a.faults ≤ b.faults → IsOnlyRead a b
-synced a b time crash image later = record { keeps = keeps_call a b a.may_leave time crash; image = image; later = later }
+pub synced : (a b : DiskState) → Elapses a b → ((c : List ℕ) → b.may_leave c → a.may_leave c) → b.image ≡ a.image
+    → a.faults ≤ b.faults → IsOnlyRead a b
+synced a b time crash image later = record {
+  keeps = keeps_call a b a.may_leave time crash;
+  image = image;
+  later =
+      later;
+}
 
 pub read_on : (a b c : DiskState) → IsOnlyRead a b → Untouched b c → b.faults ≤ c.faults → IsOnlyRead a c
 read_on a b c first same later = record {

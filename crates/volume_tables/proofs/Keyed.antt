@@ -1,5 +1,6 @@
 -- What well-formed pairs are: each belongs to the table whose number its key begins with.
-use Rattle.std.specs.Prelude.{◌≡◌, ◌⊎◌, ◌&&◌, ◌||◌, ℕ, Bool, true, false, List, [], ◌∷◌, Option, Some, None, is_some, get_or, refl}
+use Rattle.std.specs.Prelude.{◌≡◌, ◌⊎◌, ◌&&◌, ◌||◌, ℕ, Bool, true, false, List, [], ◌∷◌, Option, Some, None, is_some}
+use Rattle.std.specs.Prelude.{get_or, refl}
 use Rattle.std.proofs.Common.{inl, inr, arith}
 use Rattle.byte_map.specs.Words.{Map}
 use Rattle.table_records.specs.Codecs.{Codec, IsKeyed}
@@ -23,7 +24,8 @@ both_are true b p q = q
 both_are false b p q = absurd (cc)
 
 -- a pair of a table begins with its number
-pub pair_number : {K V : Type 0} (c : Codec K V) (key value : List ℕ) → is_pair_of c key value ≡ true → get_or key 0 0 ≡ c.number
+pub pair_number : {K V : Type 0} (c : Codec K V) (key value : List ℕ) → is_pair_of c key value ≡ true
+    → get_or key 0 0 ≡ c.number
 pair_number {K} c key value is = by (c.read_key key) refl (first_is _ _ is)
   where
     by : (o : Option K) → c.read_key key ≡ o → is_some o ≡ true → get_or key 0 0 ≡ c.number
@@ -101,11 +103,15 @@ module _ (key value : List ℕ) (is : is_well_formed key value ≡ true) where
       (λ p. let number = pair_number settings_codec key value p in absurd (omega (arith, number, first))) (λ p. p)
 
 -- each key of a well-formed map with the number of a table is one of its keys
-keyed : {K V : Type 0} (c : Codec K V) → ((key value : List ℕ) → is_well_formed key value ≡ true → get_or key 0 0 ≡ c.number → is_pair_of c key value ≡ true)
+keyed : {K V : Type 0} (c : Codec K V) → ((key value : List ℕ) → is_well_formed key value ≡ true
+    → get_or key 0 0 ≡ c.number → is_pair_of c key value ≡ true)
     → (m : Map) → are_well_formed m ≡ true → IsKeyed c m
 keyed c own [] is = tt
-keyed c own (e ∷ m) is =
-    (λ first. first_is (is_some (c.read_key e.0)) (c.is_value e.1) (own e.0 e.1 (first_is _ _ is) first), keyed c own m (second_is (is_well_formed e.0 e.1) _ is))
+keyed c own (e ∷ m) is = (
+  λ first. first_is (is_some (c.read_key e.0)) (c.is_value e.1) (own e.0 e.1 (first_is _ _ is) first),
+  keyed c own m
+      (second_is (is_well_formed e.0 e.1) _ is),
+)
 
 pub names_keyed : (m : Map) → are_well_formed m ≡ true → IsKeyed name_codec m
 names_keyed m is = keyed name_codec is_name m is

@@ -1,5 +1,6 @@
 -- Calls that make nothing durable, one after another.
-use Rattle.std.specs.Prelude.{◌≡◌, ◌≢◌, ◌≤◌, ◌<◌, ◌+◌, ◌-◌, ◌*◌, ℕ, true, false, cond, nat_eq, if◌then◌else◌, List, [], ◌∷◌, ◌++◌, length, slice_set, Option, Some, None}
+use Rattle.std.specs.Prelude.{◌≡◌, ◌≢◌, ◌≤◌, ◌<◌, ◌+◌, ◌-◌, ◌*◌, ℕ, true, false, cond, nat_eq, if◌then◌else◌, List, []}
+use Rattle.std.specs.Prelude.{◌∷◌, ◌++◌, length, slice_set, Option, Some, None}
 use Rattle.std.proofs.Common.{sym, ◌∙◌, ap, subst, inl, inr, arith, length-set}
 use Rattle.std.proofs.lemmas.Bool.{cases_eq}
 use Rattle.std.proofs.lemmas.List.{get_or-set_same, get_or-set_other}
@@ -16,7 +17,8 @@ use Rattle.table_records.specs.Keys.{pair_cmp}
 use Rattle.table_records.specs.Next.{sorted_typed}
 use Rattle.table_records.specs.Tables.{extent_codec}
 use Rattle.table_records.specs.declared.records.Extent.{Extent}
-use Rattle.volume_inside.specs.Layout.{half_bytes, journal_at, first_data_cluster, data_clusters, IsDataCluster, AreData}
+use Rattle.volume_inside.specs.Layout.{half_bytes, journal_at, first_data_cluster, data_clusters, IsDataCluster}
+use Rattle.volume_inside.specs.Layout.{AreData}
 use Rattle.volume_inside.specs.Typed.{Typed, FileBlock, typed_of}
 use Rattle.volume_inside.specs.Changes.{with_extent}
 use Rattle.volume_inside.specs.Ranges.{IsApart}
@@ -26,7 +28,8 @@ use Rattle.volume_inside.specs.Lists.{IsOut}
 use Rattle.volume_inside.specs.Shows.{Area, Shows, Kept}
 use Rattle.volume_inside.proofs.Spaces.{named_used, found_in, replaced_unnamed}
 use Rattle.volume_tables.specs.Log.{log_state, log_now, log_place, log_epoch, IsLogOf}
-use Rattle.volume_tables.specs.Clusters.{HasState, AreHeld, used_at, deferred_at, deferred_unless, with_replaced, with_refused}
+use Rattle.volume_tables.specs.Clusters.{HasState, AreHeld, used_at, deferred_at, deferred_unless, with_replaced}
+use Rattle.volume_tables.specs.Clusters.{with_refused}
 use Rattle.volume_tables.specs.Tables.{disk_of, area_of, states_of, tables_now, Leaves}
 use Rattle.volume_tables.specs.declared.tables.Tables.{Tables}
 use Rattle.volume_tables.proofs.Answers.{as_true}
@@ -49,7 +52,11 @@ set_no_freer states k s differ j at = elim (cases_eq j k) [
   | inl same ↦
       let within : k < length states = omega (arith, same, at.within, length-set states k s) in
       still states k j s Free within differ at
-  | inr other ↦ record { within = omega (arith, at.within, length-set states k s); state = sym (get_or-set_other states k j s Used other) ∙ at.state }
+  | inr other ↦ record {
+    within = omega (arith, at.within, length-set states k s);
+    state = sym
+        (get_or-set_other states k j s Used other) ∙ at.state;
+  }
 ]
 
 pub used_no_freer : (n c : ℕ) (states : List State) → IsNoFreer states (used_at n c states)
@@ -59,21 +66,25 @@ deferred_no_freer : (n c : ℕ) (states : List State) → IsNoFreer states (defe
 deferred_no_freer n c states = set_no_freer states (c - first_data_cluster n) Deferred deferred_is_not_free
 
 unless_no_freer : (n c other : ℕ) (states : List State) → IsNoFreer states (deferred_unless n c other states)
-unless_no_freer n c other states = elim (nat_eq c other) as (λ b. IsNoFreer states (if b then states else deferred_at n c states)) [
-  | true ↦ λ k at. at
-  | false ↦ deferred_no_freer n c states
-]
+unless_no_freer n c other states = elim (nat_eq c other)
+    as (λ b. IsNoFreer states (if b then states else deferred_at n c states)) [
+      | true ↦ λ k at. at
+      | false ↦ deferred_no_freer n c states
+    ]
 
-pub replaced_no_freer : (n : ℕ) (was : Option Extent) (c : ℕ) (states : List State) → IsNoFreer states (with_replaced n was c states)
+pub replaced_no_freer : (n : ℕ) (was : Option Extent) (c : ℕ) (states : List State)
+    → IsNoFreer states (with_replaced n was c states)
 replaced_no_freer n None c states = λ k at. at
 replaced_no_freer n (Some o) c states = unless_no_freer n o.cluster c states
 
-pub refused_no_freer : (n : ℕ) (was : Option Extent) (c : ℕ) (states : List State) → IsNoFreer states (with_refused n was c states)
+pub refused_no_freer : (n : ℕ) (was : Option Extent) (c : ℕ) (states : List State)
+    → IsNoFreer states (with_refused n was c states)
 refused_no_freer n None c states = deferred_no_freer n c states
 refused_no_freer n (Some o) c states = unless_no_freer n c o.cluster states
 
 -- a cluster within, once it is used
-pub now_used : (n c : ℕ) (s : State) (states new : List State) → HasState n states s c → new ≡ used_at n c states → HasState n new Used c
+pub now_used : (n c : ℕ) (s : State) (states new : List State) → HasState n states s c → new ≡ used_at n c states
+    → HasState n new Used c
 now_used n c s states new has is = subst (λ (xs : List State). HasState n xs Used c) (sym is) (record {
   from_first = has.from_first;
   is = record {
@@ -85,23 +96,29 @@ now_used n c s states new has is = subst (λ (xs : List State). HasState n xs Us
 -- ---- clusters that extents name
 
 module _ (n : ℕ) (k : FileBlock) (o : Extent) where
-  data_found : (es : List (FileBlock × Extent)) (ss : List ℕ) → AreData n (extent_clusters es ++ ss) → find pair_cmp k es ≡ Some o → IsDataCluster n o.cluster
+  pub data_found : (es : List (FileBlock × Extent)) (ss : List ℕ) → AreData n (extent_clusters es ++ ss)
+      → find pair_cmp k es ≡ Some o → IsDataCluster n o.cluster
   data_found [] ss in_data found = absurd (cc)
   data_found (x ∷ es) ss in_data found =
-      elim (eq_by_cmp pair_cmp k x.0) as (λ b. cond b (Some x.1) (find pair_cmp k es) ≡ Some o → IsDataCluster n o.cluster) [
+      elim (eq_by_cmp pair_cmp k x.0) as (λ b. cond b (Some x.1) (find pair_cmp k es) ≡ Some o
+      → IsDataCluster n o.cluster) [
         | true ↦ λ is. (let same : x.1 ≡ o = cc in subst (λ (e : Extent). IsDataCluster n e.cluster) same in_data.0)
         | false ↦ λ is. data_found es ss in_data.1 is
       ] found
 
   -- the cluster of an extent that stands is used
-  pub found_used : (states : List State) (t : Typed) → AreHeld n states t → length states ≡ data_clusters n → find pair_cmp k t.extents ≡ Some o → HasState n states Used o.cluster
+  pub found_used : (states : List State) (t : Typed) → AreHeld n states t → length states ≡ data_clusters n
+      → find pair_cmp k t.extents ≡ Some o → HasState n states Used o.cluster
   found_used states t held size found =
       let one = data_found t.extents (base_clusters t) held.0 found in
-      let place : first_data_cluster n + (o.cluster - first_data_cluster n) ≡ o.cluster = omega (arith, one.from_first) in
+      let place : first_data_cluster n + (o.cluster - first_data_cluster n) ≡ o.cluster = omega
+      (arith, one.from_first) in
       record {
         from_first = one.from_first;
-        is = named_used (first_data_cluster n) states t t held.1 (o.cluster - first_data_cluster n) (omega (arith, one.from_first, one.within, size))
-            (λ out. found_in k (base_clusters t) o t.extents found (subst (λ (x : ℕ). IsOut x (clusters_of t)) place out));
+        is = named_used (first_data_cluster n) states t t held.1 (o.cluster - first_data_cluster n)
+            (omega (arith, one.from_first, one.within, size))
+            (λ out. found_in k (base_clusters t) o t.extents found
+            (subst (λ (x : ℕ). IsOut x (clusters_of t)) place out));
       }
 
 -- ---- calls
@@ -111,17 +128,21 @@ module _ {D : Type 0} {d : Ghosts D} where
   area_same a b clusters = λ i. record { clusters = clusters i; meta = meta_of journal_at (half_bytes (clusters i)) }
 
   -- a call of the space alone
-  pub space_leaves : (a b : Tables D d) → b.log ≡ a.log → b.clusters ≡ a.clusters → b.worn ≡ a.worn → (new : List State) → states_of b ≡ new → IsNoFreer (states_of a) new → d.is_same a.log.disk a.log.disk → Leaves a b
+  pub space_leaves : (a b : Tables D d) → b.log ≡ a.log → b.clusters ≡ a.clusters → b.worn ≡ a.worn → (new : List State)
+      → states_of b ≡ new → IsNoFreer (states_of a) new → d.is_same a.log.disk a.log.disk → Leaves a b
   space_leaves a b log clusters worn new is_new fewer self = record {
     clusters = clusters;
     tables = λ stored is. record {
       map = is.map;
       log = subst (λ (l : MetaLog D d). IsLogOf l is.map) (sym log) is.log;
       is = is.is;
-      stored_apart = subst (λ (n : ℕ). IsApart journal_at (2 * half_bytes n) (named stored)) (sym clusters) is.stored_apart;
-      free = λ k at. subst (λ (n : ℕ). IsOut (first_data_cluster n + k) (clusters_of stored)) (sym clusters) (is.free k (fewer k (subst (λ (xs : List State). IsIn xs k Free) is_new at)));
+      stored_apart = subst (λ (n : ℕ). IsApart journal_at (2 * half_bytes n) (named stored))
+          (sym clusters) is.stored_apart;
+      free = λ k at. subst (λ (n : ℕ). IsOut (first_data_cluster n + k) (clusters_of stored)) (sym clusters)
+          (is.free k (fewer k (subst (λ (xs : List State). IsIn xs k Free) is_new at)));
     };
-    moments = λ stored w is kept. subst (λ (l : MetaLog D d). Keeps (disk_of a) (log_state l) (Shows (area_of a) w)) (sym log) (keeps_start (disk_of a) (Shows (area_of a) w) kept);
+    moments = λ stored w is kept. subst (λ (l : MetaLog D d). Keeps (disk_of a) (log_state l) (Shows (area_of a) w))
+        (sym log) (keeps_start (disk_of a) (Shows (area_of a) w) kept);
     same = subst (λ (l : MetaLog D d). d.is_same a.log.disk l.disk) (sym log) self;
     later = subst (λ (l : MetaLog D d). (disk_of a).faults ≤ (log_state l).faults) (sym log) (omega arith);
     place = ap (λ (l : MetaLog D d). log_place l) log;
@@ -129,15 +150,18 @@ module _ {D : Type 0} {d : Ghosts D} where
     worn = worn;
   }
 
-  pub leaves_then : (next : (x y z : D) → d.is_same x y → d.is_same y z → d.is_same x z) (a b c : Tables D d) → Leaves a b → Leaves b c → Leaves a c
+  pub leaves_then : (next : (x y z : D) → d.is_same x y → d.is_same y z → d.is_same x z) (a b c : Tables D d)
+      → Leaves a b → Leaves b c → Leaves a c
   leaves_then next a b c first second = record {
     clusters = second.clusters ∙ first.clusters;
     tables = λ stored is. second.tables stored (first.tables stored is);
     moments = λ stored w is kept.
         let one = first.moments stored w is kept in
         let area = area_same a b first.clusters in
-        let two : Keeps (disk_of b) (disk_of c) (Shows (area_of a) w) = subst (λ (x : Area). Keeps (disk_of b) (disk_of c) (Shows x w)) area
-        (second.moments stored w (first.tables stored is) (subst (λ (x : Area). Kept x (disk_of b) w) (sym area) one.now)) in
+        let two : Keeps (disk_of b) (disk_of c) (Shows (area_of a) w) = subst
+        (λ (x : Area). Keeps (disk_of b) (disk_of c) (Shows x w)) area
+        (second.moments stored w (first.tables stored is)
+        (subst (λ (x : Area). Kept x (disk_of b) w) (sym area) one.now)) in
         keeps_then (disk_of a) (disk_of b) (disk_of c) (Shows (area_of a) w) one two;
     same = next a.log.disk b.log.disk c.log.disk first.same second.same;
     later = omega (arith, first.later, second.later);
@@ -147,12 +171,15 @@ module _ {D : Type 0} {d : Ghosts D} where
   }
 
   -- an extent was put in the place of one with another cluster
-  pub replaced_ready : (t u : Tables D d) (k : FileBlock) (e o : Extent) → tables_now u ≡ with_extent k e (tables_now t) → states_of u ≡ states_of t → u.clusters ≡ t.clusters
-      → find pair_cmp k (tables_now t).extents ≡ Some o → (o.cluster ≡ e.cluster → ⊥) → HasState u.clusters (states_of u) Used o.cluster × IsOut o.cluster (clusters_of (tables_now u))
+  pub replaced_ready : (t u : Tables D d) (k : FileBlock) (e o : Extent) → tables_now u ≡ with_extent k e (tables_now t)
+      → states_of u ≡ states_of t → u.clusters ≡ t.clusters
+      → find pair_cmp k (tables_now t).extents ≡ Some o → (o.cluster ≡ e.cluster → ⊥)
+      → HasState u.clusters (states_of u) Used o.cluster × IsOut o.cluster (clusters_of (tables_now u))
   replaced_ready t u k e o set states clusters found differ =
       let m = log_now t.log in
       let used = found_used t.clusters k o t.space (typed_of m) t.held t.spaces found in
-      let out = replaced_unnamed (first_data_cluster t.clusters) t.space (typed_of m) (typed_of m) t.held.1 k e o (sorted_typed extent_codec m (as_true t.contents.sorted)) found
+      let out = replaced_unnamed (first_data_cluster t.clusters) t.space (typed_of m) (typed_of m) t.held.1 k e o
+      (sorted_typed extent_codec m (as_true t.contents.sorted)) found
       (λ same. differ (sym same)) in (
         subst (λ (p : ℕ × List State). HasState p.0 p.1 Used o.cluster) (λ i. (sym clusters i, sym states i)) used,
         subst (λ (q : Typed). IsOut o.cluster (clusters_of q)) (sym set) out,

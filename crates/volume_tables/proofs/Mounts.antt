@@ -19,7 +19,8 @@ use Rattle.volume_inside.specs.Ranges.{IsApart}
 use Rattle.volume_inside.specs.Shows.{HasInside, Shows, Kept}
 use Rattle.volume_inside.specs.Typed.{Typed, typed_of}
 use Rattle.volume_inside.specs.declared.mount_fault.MountFault.{MountFault}
-use Rattle.volume_inside.specs.declared.mount_fault.MountFault.TheVariants.{NotVolume, VersionUnknown, SizeDiffers, MetaDamaged, BadTable, Failed, Memory}
+use Rattle.volume_inside.specs.declared.mount_fault.MountFault.TheVariants.{NotVolume, VersionUnknown, SizeDiffers}
+use Rattle.volume_inside.specs.declared.mount_fault.MountFault.TheVariants.{MetaDamaged, BadTable, Failed, Memory}
 use Rattle.volume_inside.proofs.Journals.{journal_apart, rules_data}
 use Rattle.volume_tables.specs.Log.{log_now}
 use Rattle.volume_tables.specs.Mount.{read_meta, IsFrontFault, IsInnerFault, IsMountFault}
@@ -30,7 +31,8 @@ use Rattle.volume_tables.proofs.Assembled.{out_unless_used, free_differs}
 
 -- ---- refusals
 
-pub table_refused : (n : ℕ) (m : Map) (old new : DiskState) (fault : MountFault) → IsRefusal n m fault → (IsTrue old.tells → read_meta n old.image ≡ Ok m)
+pub table_refused : (n : ℕ) (m : Map) (old new : DiskState) (fault : MountFault) → IsRefusal n m fault
+    → (IsTrue old.tells → read_meta n old.image ≡ Ok m)
     → IsInnerFault n old new fault
 table_refused n m old new NotVolume why spells = why
 table_refused n m old new (VersionUnknown found) why spells = λ told. (m, spells told, why)
@@ -53,12 +55,14 @@ module _ (n : ℕ) (s₀ s₁ s₂ : DiskState) (first : IsOnlyRead s₀ s₁) w
   told_on : IsTrue s₀.tells → IsTrue s₁.tells
   told_on told = first.keeps.tells ∙ told
 
-  pub inner_refused : (fault : MountFault) → (IsTrue s₀.tells → IsImageOf n s₀.image) → IsInnerFault n s₁ s₂ fault → IsMountFault s₀ s₂ fault
+  pub inner_refused : (fault : MountFault) → (IsTrue s₀.tells → IsImageOf n s₀.image) → IsInnerFault n s₁ s₂ fault
+      → IsMountFault s₀ s₂ fault
   inner_refused NotVolume image why = absurd why
   inner_refused (VersionUnknown found) image why =
       λ told. let r = why (told_on told) in (n, r.0, image told, ap (read_meta n) (sym first.image) ∙ r.1, r.2)
   inner_refused (SizeDiffers said size) image why = absurd why
-  inner_refused (MetaDamaged half) image why = λ told. (n, image told, ap (read_meta n) (sym first.image) ∙ why (told_on told))
+  inner_refused (MetaDamaged half) image why = λ told.
+      (n, image told, ap (read_meta n) (sym first.image) ∙ why (told_on told))
   inner_refused (BadTable rule) image why =
       λ told. let r = why (told_on told) in (n, r.0, image told, ap (read_meta n) (sym first.image) ∙ r.1, r.2, r.3)
   inner_refused Failed image why = omega (arith, why, first.later)
@@ -66,14 +70,16 @@ module _ (n : ℕ) (s₀ s₁ s₂ : DiskState) (first : IsOnlyRead s₀ s₁) w
 
   pub read_twice : IsOnlyRead s₁ s₂ → IsOnlyRead s₀ s₂
   read_twice second = record {
-    keeps = keeps_then s₀ s₁ s₂ s₀.may_leave first.keeps (keeps_as s₁ s₂ s₁.may_leave s₀.may_leave (λ c left. first.keeps.now c left) second.keeps);
+    keeps = keeps_then s₀ s₁ s₂ s₀.may_leave first.keeps
+        (keeps_as s₁ s₂ s₁.may_leave s₀.may_leave (λ c left. first.keeps.now c left) second.keeps);
     image = second.image ∙ first.image;
     later = omega (arith, first.later, second.later);
   }
 
 -- ---- what is mounted
 
-module _ {D : Type 0} {d : Ghosts D} (t : Tables D d) (n : ℕ) (s₀ s₁ : DiskState) (first : IsOnlyRead s₀ s₁) (second : IsOnlyRead s₁ (disk_of t))
+module _ {D : Type 0} {d : Ghosts D} (t : Tables D d) (n : ℕ) (s₀ s₁ : DiskState) (first : IsOnlyRead s₀ s₁)
+    (second : IsOnlyRead s₁ (disk_of t))
     (from : IsMountedFrom n s₁ t) where
   pub mounted_inside : IsImageOf n s₀.image → HasInside (area_at read_meta n) (inside_now t) s₀.image
   mounted_inside image =
@@ -87,26 +93,32 @@ module _ {D : Type 0} {d : Ghosts D} (t : Tables D d) (n : ℕ) (s₀ s₁ : Dis
         is = λ i. inside_at (sym from.now i) (sym last i);
       }
 
-  pub mounted_kept : t.clusters ≡ n → IsImageOf n s₀.image → Only s₀.image s₁.may_leave → Kept (area_of t) (disk_of t) (view_now t)
+  pub mounted_kept : t.clusters ≡ n → IsImageOf n s₀.image → Only s₀.image s₁.may_leave
+      → Kept (area_of t) (disk_of t) (view_now t)
   mounted_kept is image only = λ c left.
       let at : c ≡ s₀.image = only c (second.keeps.now c left) in
       let shows : Shows (area_of t) (view_now t) s₀.image = record {
         inside = inside_now t;
-        has = subst (λ (k : ℕ). HasInside (record { clusters = k; meta = meta_of journal_at (half_bytes k) }) (inside_now t) s₀.image) (sym is) (mounted_inside image);
+        has = subst (λ (k : ℕ). HasInside (record { clusters = k; meta = meta_of journal_at (half_bytes k) })
+            (inside_now t) s₀.image) (sym is) (mounted_inside image);
         is = refl;
       } in
       subst (λ (q : List ℕ). Shows (area_of t) (view_now t) q) (sym at) shows
 
-  pub mounted_tables : t.clusters ≡ n → IsFilled n (clusters_of (tables_now t)) (states_of t) → IsTables t (tables_now t)
+  pub mounted_tables : t.clusters ≡ n → IsFilled n (clusters_of (tables_now t)) (states_of t)
+      → IsTables t (tables_now t)
   mounted_tables is filled =
       let cs = clusters_of (tables_now t) in
-      let in_data : AreData n cs = subst (λ (q : Typed). AreData n (clusters_of q)) (sym from.now) (rules_data n (typed_of (log_now t.log)) from.volume.rules) in
+      let in_data : AreData n cs = subst (λ (q : Typed). AreData n (clusters_of q)) (sym from.now)
+      (rules_data n (typed_of (log_now t.log)) from.volume.rules) in
       record {
         map = log_now t.log;
         log = from.log;
         is = sym from.now;
-        stored_apart = subst (λ (k : ℕ). IsApart journal_at (2 * half_bytes k) (named (tables_now t))) (sym is) (journal_apart n (tables_now t) in_data);
-        free = λ k free. subst (λ (j : ℕ). IsOut (first_data_cluster j + k) cs) (sym is) (out_unless_used (first_data_cluster n) (states_of t) cs k Free free_differs filled.used free);
+        stored_apart = subst (λ (k : ℕ). IsApart journal_at (2 * half_bytes k) (named (tables_now t))) (sym is)
+            (journal_apart n (tables_now t) in_data);
+        free = λ k free. subst (λ (j : ℕ). IsOut (first_data_cluster j + k) cs) (sym is)
+            (out_unless_used (first_data_cluster n) (states_of t) cs k Free free_differs filled.used free);
       }
 
 -- ---- what clauses of one answer say together

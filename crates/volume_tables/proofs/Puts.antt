@@ -13,7 +13,8 @@ use Rattle.table_records.specs.declared.records.Extent.{Extent}
 use Rattle.table_records.specs.declared.records.ResultRecord.{ResultRecord}
 use Rattle.table_records.specs.declared.settings.Settings.{Settings}
 use Rattle.volume_inside.specs.Typed.{FileBlock, typed_of}
-use Rattle.volume_inside.specs.Changes.{with_volume, with_name, with_file, with_extent, with_settings, with_result, keep_names, keep_files, keep_extents}
+use Rattle.volume_inside.specs.Changes.{with_volume, with_name, with_file, with_extent, with_settings, with_result}
+use Rattle.volume_inside.specs.Changes.{keep_names, keep_files, keep_extents}
 use Rattle.volume_tables.proofs.WellFormed.{apart}
 
 module _ (m n : Map) (sorted : T (is_sorted bytes_cmp m)) where
@@ -67,7 +68,8 @@ module _ (m n : Map) (sorted : T (is_sorted bytes_cmp m)) where
     results = put_there settings_codec result_codec (apart 9 10 refl) tt v m n p i;
   }
 
-  pub result_put : (k : JobKind) (v : ResultRecord) → IsPut result_codec k v m n → typed_of n ≡ with_result k v (typed_of m)
+  pub result_put : (k : JobKind) (v : ResultRecord) → IsPut result_codec k v m n
+      → typed_of n ≡ with_result k v (typed_of m)
   result_put k v p = λ i. record {
     volume = put_there result_codec volume_codec (apart 10 1 refl) k v m n p i;
     names = put_there result_codec name_codec (apart 10 2 refl) k v m n p i;

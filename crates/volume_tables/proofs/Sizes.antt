@@ -14,7 +14,8 @@ use Rattle.table_records.specs.declared.jobs.JobKind.{JobKind}
 pub file_key : (b : List ℕ) (k : ℕ) → file_codec.read_key b ≡ Some k → length b ≡ 9
 file_key b k is =
     let from = behind_means 3 (number_in 8) b k is in
-    let rest : length (big_bytes 8 k) ≡ length from.0 = ap (λ (l : List ℕ). length l) (number_means 8 from.0 k from.2).1 in
+    let rest : length (big_bytes 8 k) ≡ length from.0 = ap (λ (l : List ℕ). length l)
+    (number_means 8 from.0 k from.2).1 in
     let whole : length b ≡ length (3 ∷ from.0) = ap (λ (l : List ℕ). length l) from.1 in
     omega (arith, rest, whole)
 
@@ -33,7 +34,8 @@ extent_key b k is =
     let whole : length b ≡ length (4 ∷ from.0) = ap (λ (l : List ℕ). length l) from.1 in
     omega (arith, rest, whole)
   where
-    by : (b : List ℕ) (k : ℕ × ℕ) (o p : Option ℕ) → number_in 8 (take 8 b) ≡ o → number_in 4 (drop 8 b) ≡ p → both o p ≡ Some k → length b ≡ 12
+    by : (b : List ℕ) (k : ℕ × ℕ) (o p : Option ℕ) → number_in 8 (take 8 b) ≡ o → number_in 4 (drop 8 b) ≡ p
+        → both o p ≡ Some k → length b ≡ 12
     by b k None p x y is = absurd (cc)
     by b k (Some m) None x y is = absurd (cc)
     by b k (Some m) (Some n) x y is =
@@ -79,12 +81,14 @@ settings_key b is =
     none (x ∷ b) is = absurd (cc)
 
 -- the end of a range of keys of one length
-pub end_size : {K V : Type 0} (c : Codec K V) (n : ℕ) → ((b : List ℕ) (k : K) → c.read_key b ≡ Some k → length b ≡ n) → 1 ≤ n
+pub end_size : {K V : Type 0} (c : Codec K V) (n : ℕ) → ((b : List ℕ) (k : K) → c.read_key b ≡ Some k → length b ≡ n)
+    → 1 ≤ n
     → (to : Option K) (w : List ℕ) → EndsRange c to w → length w ≤ n
 end_size c n keys some None w ends = let one = ap (λ (l : List ℕ). length l) ends in omega (arith, one, some)
 end_size c n keys some (Some to) w ends = let key = keys w to ends in omega (arith, key)
 
 -- the end of a range of names of at most 255 bytes
-pub name_end : (to : Option (Bor (List ℕ))) (w : List ℕ) → IfSome to (λ name. length name.now ≤ 255) → EndsRange name_codec (option_map (λ name. name.now) to) w → length w ≤ 256
+pub name_end : (to : Option (Bor (List ℕ))) (w : List ℕ) → IfSome to (λ name. length name.now ≤ 255)
+    → EndsRange name_codec (option_map (λ name. name.now) to) w → length w ≤ 256
 name_end None w short ends = let one = ap (λ (l : List ℕ). length l) ends in omega (arith, one)
 name_end (Some name) w short ends = let key = name_key w name.now ends in omega (arith, key, short)

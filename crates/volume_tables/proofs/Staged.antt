@@ -8,7 +8,8 @@ use Rattle.meta_log.specs.declared.fault.MetaFault.TheVariants.{GroupFull, Table
 use Rattle.volume_tables.specs.Faults.{answer_of}
 
 -- a range that fits is dropped
-pub drop_fits : {n : ℕ} (r : Result (Unit {0}) MetaFault) → (IsErrOf r GroupFull ↔ (65536 < n)) → OnErr r (IsErrOf r GroupFull) → n ≤ 65536 → IsOk r
+pub drop_fits : {n : ℕ} (r : Result (Unit {0}) MetaFault) → (IsErrOf r GroupFull ↔ (65536 < n))
+    → OnErr r (IsErrOf r GroupFull) → n ≤ 65536 → IsOk r
 drop_fits (Ok u) full refused fits = refl
 drop_fits (Err e) full refused fits = absurd (let past = full.0 refused in omega (arith, past, fits))
 
@@ -26,7 +27,8 @@ pub answer_is_ok : (r : Result (Unit {0}) MetaFault) → IsOk r → IsOk (answer
 answer_is_ok (Ok u) is = refl
 answer_is_ok (Err e) is = absurd (cc)
 
-pub answer_full : {P : Type 0} (r : Result (Unit {0}) MetaFault) → (IsErrOf r TableFull ↔ P) → IsErrOf (answer_of r) fault.TableFull ↔ P
+pub answer_full : {P : Type 0} (r : Result (Unit {0}) MetaFault) → (IsErrOf r TableFull ↔ P)
+    → IsErrOf (answer_of r) fault.TableFull ↔ P
 answer_full {P} r full = (λ is. full.0 (back r is), λ p. ap answer_of (full.1 p))
   where
     back : (r : Result (Unit {0}) MetaFault) → IsErrOf (answer_of r) fault.TableFull → IsErrOf r TableFull
@@ -40,16 +42,19 @@ answer_full {P} r full = (λ is. full.0 (back r is), λ p. ap answer_of (full.1 
 
 -- a put that fits the group
 pub put_refused : {n : ℕ} (r : Result (Unit {0}) MetaFault) → (IsErrOf r GroupFull ↔ (65536 < n)) → n ≤ 65536
-    → OnErr r (IsErrOf r GroupFull ⊎ (IsErrOf r TableFull ⊎ IsErrOf r Memory)) → OnErr (answer_of r) (IsErrOf (answer_of r) fault.TableFull ⊎ IsErrOf (answer_of r) fault.Memory)
+    → OnErr r (IsErrOf r GroupFull ⊎ (IsErrOf r TableFull ⊎ IsErrOf r Memory))
+    → OnErr (answer_of r) (IsErrOf (answer_of r) fault.TableFull ⊎ IsErrOf (answer_of r) fault.Memory)
 put_refused (Ok u) full fits refused = tt
 put_refused (Err e) full fits (inl group) = absurd (let past = full.0 group in omega (arith, past, fits))
 put_refused (Err e) full fits (inr (inl table)) = inl (ap answer_of table)
 put_refused (Err e) full fits (inr (inr memory)) = inr (ap answer_of memory)
 
-pub answer_failed : (P : Type 0) (r : Result (Unit {0}) MetaFault) → OnErr r (IsErrOf r Failed × P) → OnErr (answer_of r) (IsErrOf (answer_of r) fault.Failed × P)
+pub answer_failed : (P : Type 0) (r : Result (Unit {0}) MetaFault) → OnErr r (IsErrOf r Failed × P)
+    → OnErr (answer_of r) (IsErrOf (answer_of r) fault.Failed × P)
 answer_failed P (Ok u) failed = tt
 answer_failed P (Err e) failed = (ap answer_of failed.0, failed.1)
 
 -- what the journal promises of an Ok, the tables do
-pub handed_ok : (P : Type 0) (r : Result (Unit {0}) MetaFault) (result : Result (Unit {0}) Fault) → result ≡ answer_of r → OnOk r P → OnOk result P
+pub handed_ok : (P : Type 0) (r : Result (Unit {0}) MetaFault) (result : Result (Unit {0}) Fault) → result ≡ answer_of r
+    → OnOk r P → OnOk result P
 handed_ok P r result is p = subst (λ (a : Result (Unit {0}) Fault). OnOk a P) (sym is) (answer_ok P r p)

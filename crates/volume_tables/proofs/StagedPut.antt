@@ -1,5 +1,6 @@
 -- A put that the journal answered, as one of a table.
-use Rattle.std.specs.Prelude.{◌≡◌, ◌⊎◌, ◌↔◌, ◌≤◌, ◌<◌, ◌+◌, ℕ, List, length, Some, IsTrue, Result, IsOk, IsErrOf, OnOk, OnErr}
+use Rattle.std.specs.Prelude.{◌≡◌, ◌⊎◌, ◌↔◌, ◌≤◌, ◌<◌, ◌+◌, ℕ, List, length, Some, IsTrue, Result, IsOk, IsErrOf, OnOk}
+use Rattle.std.specs.Prelude.{OnErr}
 use Rattle.std.proofs.Common.{sym, subst}
 use Rattle.std.proofs.lemmas.Result.{on_err_weaker}
 use Rattle.std.specs.FinMap.Entries.{find, put}
@@ -16,11 +17,13 @@ use Rattle.volume_tables.specs.Log.{log_now, log_staged}
 use Rattle.volume_tables.specs.Staging.{IsQuiet, IsStagedPut}
 use Rattle.volume_tables.proofs.Staged.{answer_ok, answer_err, answer_is_ok, answer_full, put_refused}
 
-module _ {D : Type 0} {d : Ghosts D} {K V : Type 0} (c : Codec K V) (k : K) (v : V) (old new : MetaLog D d) (key value : List ℕ) (r : Result (Unit {0}) MetaFault) where
+module _ {D : Type 0} {d : Ghosts D} {K V : Type 0} (c : Codec K V) (k : K) (v : V) (old new : MetaLog D d)
+    (key value : List ℕ) (r : Result (Unit {0}) MetaFault) where
   pub staged_put : c.read_key key ≡ Some k → IsTrue (c.is_value value) → c.read_value value ≡ v
       → log_staged old + (5 + (length key + length value)) ≤ 65536
       → (IsErrOf r GroupFull ↔ (65536 < log_staged old + (5 + (length key + length value))))
-      → (IsErrOf r TableFull ↔ ((log_staged old + (5 + (length key + length value)) ≤ 65536) × (old.half < checkpoint_length (put bytes_cmp key value (log_now old)))))
+      → (IsErrOf r TableFull ↔ ((log_staged old + (5 + (length key + length value)) ≤ 65536)
+      × (old.half < checkpoint_length (put bytes_cmp key value (log_now old)))))
       → ((was : List ℕ) → find bytes_cmp key (log_now old) ≡ Some was → length value ≡ length was
       → log_staged old + (5 + (length key + length value)) ≤ 65536 → IsOk r)
       → OnErr r (IsErrOf r GroupFull ⊎ (IsErrOf r TableFull ⊎ IsErrOf r Memory))

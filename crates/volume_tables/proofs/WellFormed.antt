@@ -1,5 +1,6 @@
 -- Tables whose entries have values of one length, and what their changes leave well formed.
-use Rattle.std.specs.Prelude.{◌≡◌, ◌≢◌, ◌⊎◌, ◌≤◌, ◌+◌, ◌||◌, ℕ, Bool, true, false, cond, nat_eq, List, [], ◌∷◌, length, Option, Some, None, is_some, get_or, T, refl}
+use Rattle.std.specs.Prelude.{◌≡◌, ◌≢◌, ◌⊎◌, ◌≤◌, ◌+◌, ◌||◌, ℕ, Bool, true, false, cond, nat_eq, List, [], ◌∷◌, length}
+use Rattle.std.specs.Prelude.{Option, Some, None, is_some, get_or, T, refl}
 use Rattle.std.proofs.Common.{sym, ◌∙◌, ap, subst, arith, eqb-true, eq-eqb, inl, inr}
 use Rattle.std.proofs.lemmas.Bool.{false≢true}
 use Rattle.std.specs.declared.cmp.Ordering.TheVariants.{Less, Equal, Greater}
@@ -8,7 +9,8 @@ use Rattle.std.specs.Ordering.{is_eq}
 use Rattle.std.specs.FinMap.Entries.{find, put, where_key, by_order, is_sorted}
 use Rattle.std.proofs.lemmas.Map.Lookups.{exact_bytes}
 use Rattle.byte_map.specs.Words.{Map, bytes_cmp, without}
-use Rattle.byte_map.specs.Laws.{length_put_new, length_put_present, bytes_in_put_new, bytes_in_put_present, length_without, bytes_in_without}
+use Rattle.byte_map.specs.Laws.{length_put_new, length_put_present, bytes_in_put_new, bytes_in_put_present}
+use Rattle.byte_map.specs.Laws.{length_without, bytes_in_without}
 use Rattle.table_records.specs.Codecs.{Codec, typed}
 use Rattle.table_records.specs.Laws.{find_typed}
 use Rattle.table_records.specs.Tables.{volume_codec, name_codec, file_codec, extent_codec, settings_codec, result_codec}
@@ -43,10 +45,13 @@ module _ (key value : List ℕ) where
     ])
   ]
 
-  joined : (is_pair_of volume_codec key value ≡ true) ⊎ ((is_pair_of name_codec key value ≡ true) ⊎ ((is_pair_of file_codec key value ≡ true)
-      ⊎ ((is_pair_of extent_codec key value ≡ true) ⊎ ((is_pair_of settings_codec key value ≡ true) ⊎ (is_pair_of result_codec key value ≡ true)))))
+  joined : (is_pair_of volume_codec key value ≡ true)
+      ⊎ ((is_pair_of name_codec key value ≡ true) ⊎ ((is_pair_of file_codec key value ≡ true)
+      ⊎ ((is_pair_of extent_codec key value ≡ true)
+      ⊎ ((is_pair_of settings_codec key value ≡ true) ⊎ (is_pair_of result_codec key value ≡ true)))))
       → is_well_formed key value ≡ true
-  joined one = any (is_pair_of volume_codec key value) (is_pair_of name_codec key value) (is_pair_of file_codec key value)
+  joined one = any (is_pair_of volume_codec key value) (is_pair_of name_codec key value)
+      (is_pair_of file_codec key value)
       (is_pair_of extent_codec key value) (is_pair_of settings_codec key value) (is_pair_of result_codec key value) one
 
 pub apart : (a b : ℕ) → nat_eq a b ≡ false → a ≢ b
@@ -54,7 +59,8 @@ apart a b differ same = false≢true (sym differ ∙ eq-eqb a b same)
 
 -- the pairs of a table are well formed, those with its number are its own, and its values have so many bytes
 pub record IsEntryTable {K V : Type 0} (c : Codec K V) (size : ℕ) : Type 0 where
-  pub own : (key value : List ℕ) → is_well_formed key value ≡ true → get_or key 0 0 ≡ c.number → is_pair_of c key value ≡ true
+  pub own : (key value : List ℕ) → is_well_formed key value ≡ true → get_or key 0 0 ≡ c.number
+      → is_pair_of c key value ≡ true
   pub joins : (key value : List ℕ) → is_pair_of c key value ≡ true → is_well_formed key value ≡ true
   pub sized : (value : List ℕ) → c.is_value value ≡ true → length value ≡ size
 
@@ -98,29 +104,38 @@ settings_join key value is = joined key value (inr (inr (inr (inr (inl is)))))
 
 -- ---- a map stays well formed
 
-pub put_well_formed : (key value : List ℕ) (m : Map) → is_well_formed key value ≡ true → are_well_formed m ≡ true → are_well_formed (put bytes_cmp key value m) ≡ true
+pub put_well_formed : (key value : List ℕ) (m : Map) → is_well_formed key value ≡ true → are_well_formed m ≡ true
+    → are_well_formed (put bytes_cmp key value m) ≡ true
 put_well_formed key value [] one all = both_are _ _ one refl
 put_well_formed key value (e ∷ m) one all =
-    elim (bytes_cmp key e.0) as (λ r. bytes_cmp key e.0 ≡ r → are_well_formed (by_order r ((key, value) ∷ e ∷ m) ((e.0, value) ∷ m) (e ∷ put bytes_cmp key value m)) ≡ true) [
+    elim (bytes_cmp key e.0) as (λ r. bytes_cmp key e.0 ≡ r
+    → are_well_formed (by_order r ((key, value) ∷ e ∷ m) ((e.0, value) ∷ m) (e ∷ put bytes_cmp key value m)) ≡ true) [
       | Less ↦ λ r. both_are _ _ one all
-      | Equal ↦ λ r. both_are _ _ (subst (λ (b : List ℕ). is_well_formed b value ≡ true) (exact_bytes key e.0 r) one) (second_is (is_well_formed e.0 e.1) _ all)
-      | Greater ↦ λ r. both_are _ _ (first_is _ _ all) (put_well_formed key value m one (second_is (is_well_formed e.0 e.1) _ all))
+      | Equal ↦ λ r. both_are _ _ (subst (λ (b : List ℕ). is_well_formed b value ≡ true) (exact_bytes key e.0 r) one)
+          (second_is (is_well_formed e.0 e.1) _ all)
+      | Greater ↦ λ r. both_are _ _ (first_is _ _ all)
+          (put_well_formed key value m one (second_is (is_well_formed e.0 e.1) _ all))
     ] refl
 
-pub where_well_formed : (test : List ℕ → Bool) (m : Map) → are_well_formed m ≡ true → are_well_formed (where_key bytes_cmp test m) ≡ true
+pub where_well_formed : (test : List ℕ → Bool) (m : Map) → are_well_formed m ≡ true
+    → are_well_formed (where_key bytes_cmp test m) ≡ true
 where_well_formed test [] all = refl
 where_well_formed test (e ∷ m) all =
     let rest = where_well_formed test m (second_is (is_well_formed e.0 e.1) _ all) in
-    elim (test e.0) as (λ b. are_well_formed (cond b (e ∷ where_key bytes_cmp test m) (where_key bytes_cmp test m)) ≡ true) [
+    elim (test e.0) as (λ b. are_well_formed (cond b (e ∷ where_key bytes_cmp test m) (where_key bytes_cmp test m)) ≡
+    true) [
       | true ↦ both_are _ _ (first_is _ _ all) rest
       | false ↦ rest
     ]
 
-pub found_well_formed : (key w : List ℕ) (m : Map) → are_well_formed m ≡ true → find bytes_cmp key m ≡ Some w → is_well_formed key w ≡ true
+pub found_well_formed : (key w : List ℕ) (m : Map) → are_well_formed m ≡ true → find bytes_cmp key m ≡ Some w
+    → is_well_formed key w ≡ true
 found_well_formed key w [] all found = absurd (cc)
 found_well_formed key w (e ∷ m) all found =
-    let later : find bytes_cmp key m ≡ Some w → is_well_formed key w ≡ true = λ is. found_well_formed key w m (second_is (is_well_formed e.0 e.1) _ all) is in
-    elim (bytes_cmp key e.0) as (λ r. bytes_cmp key e.0 ≡ r → cond (is_eq r) (Some e.1) (find bytes_cmp key m) ≡ Some w → is_well_formed key w ≡ true) [
+    let later : find bytes_cmp key m ≡ Some w → is_well_formed key w ≡ true = λ is. found_well_formed key w m
+    (second_is (is_well_formed e.0 e.1) _ all) is in
+    elim (bytes_cmp key e.0) as (λ r. bytes_cmp key e.0 ≡ r → cond (is_eq r) (Some e.1) (find bytes_cmp key m) ≡ Some w
+    → is_well_formed key w ≡ true) [
       | Less ↦ λ r is. later is
       | Equal ↦ λ r is.
           let value : e.1 ≡ w = cc in
@@ -136,27 +151,37 @@ checkpoint_without from to m = omega (arith, length_without from to m, bytes_in_
 
 module _ {K V : Type 0} (c : Codec K V) (size : ℕ) (table : IsEntryTable c size) where
   -- a value that stands at a key of the table has as many bytes as one that is put there
-  pub found_size : (key w : List ℕ) (k : K) (m : Map) → c.read_key key ≡ Some k → are_well_formed m ≡ true → find bytes_cmp key m ≡ Some w → length w ≡ size
+  pub found_size : (key w : List ℕ) (k : K) (m : Map) → c.read_key key ≡ Some k → are_well_formed m ≡ true
+      → find bytes_cmp key m ≡ Some w → length w ≡ size
   found_size key w k m spells all found =
-      table.sized w (second_is (is_some (c.read_key key)) _ (table.own key w (found_well_formed key w m all found) (c.numbered key k spells)))
+      table.sized w (second_is (is_some (c.read_key key)) _
+      (table.own key w (found_well_formed key w m all found) (c.numbered key k spells)))
 
-  pub checkpoint_put : (key value : List ℕ) (k : K) (m : Map) → c.read_key key ≡ Some k → c.is_value value ≡ true → T (is_sorted bytes_cmp m) → are_well_formed m ≡ true
-      → checkpoint_length (put bytes_cmp key value m) ≡ checkpoint_length m + new_bytes (find c.cmp k (typed c m)) (5 + (length key + size))
+  pub checkpoint_put : (key value : List ℕ) (k : K) (m : Map) → c.read_key key ≡ Some k → c.is_value value ≡ true
+      → T (is_sorted bytes_cmp m) → are_well_formed m ≡ true
+      → checkpoint_length (put bytes_cmp key value m) ≡ checkpoint_length m + new_bytes (find c.cmp k (typed c m))
+      (5 + (length key + size))
   checkpoint_put key value k m spells whole sorted all =
-      by (find bytes_cmp key m) refl ∙ ap (λ (o : Option V). checkpoint_length m + new_bytes o (5 + (length key + size))) (sym (find_typed c key k spells m))
+      by (find bytes_cmp key m) refl ∙ ap (λ (o : Option V). checkpoint_length m + new_bytes o
+      (5 + (length key + size))) (sym (find_typed c key k spells m))
     where
       long : length value ≡ size
       long = table.sized value whole
 
       by : (o : Option (List ℕ)) → find bytes_cmp key m ≡ o
-          → checkpoint_length (put bytes_cmp key value m) ≡ checkpoint_length m + new_bytes (option_map c.read_value (find bytes_cmp key m)) (5 + (length key + size))
+          → checkpoint_length (put bytes_cmp key value m) ≡ checkpoint_length m + new_bytes
+          (option_map c.read_value (find bytes_cmp key m)) (5 + (length key + size))
       by None none =
-          let P : Option (List ℕ) → Type 0 = λ o. checkpoint_length (put bytes_cmp key value m) ≡ checkpoint_length m + new_bytes (option_map c.read_value o) (5 + (length key + size)) in
+          let P : Option (List ℕ) → Type 0 = λ o. checkpoint_length
+          (put bytes_cmp key value m) ≡ checkpoint_length m + new_bytes (option_map c.read_value o)
+          (5 + (length key + size)) in
           let count = length_put_new key value m sorted none in
           let bytes = bytes_in_put_new key value m none in
           subst P (sym none) (omega (arith, count, bytes, long))
       by (Some w) found =
-          let P : Option (List ℕ) → Type 0 = λ o. checkpoint_length (put bytes_cmp key value m) ≡ checkpoint_length m + new_bytes (option_map c.read_value o) (5 + (length key + size)) in
+          let P : Option (List ℕ) → Type 0 = λ o. checkpoint_length
+          (put bytes_cmp key value m) ≡ checkpoint_length m + new_bytes (option_map c.read_value o)
+          (5 + (length key + size)) in
           let count = length_put_present key value w m sorted found in
           let bytes = bytes_in_put_present key value w m sorted found in
           let was = found_size key w k m spells all found in

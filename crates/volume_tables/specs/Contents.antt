@@ -21,3 +21,9 @@ pub record HasContents (m : Map) (next_id : ℕ) (settings : Settings) (ends : J
   pub volume : typed volume_codec m ≡ (tt, record { version = 1; next_id = next_id }) ∷ []
   pub settings_there : typed settings_codec m ≡ (tt, settings) ∷ []
   pub ends_there : typed result_codec m ≡ staged_results ends
+
+-- The keys rise, each pair is well formed, and the results of jobs are these.
+pub record HasEnds (m : Map) (ends : JobEnds) : Type 0 where
+  pub sorted : is_sorted bytes_cmp m ≡ true
+  pub spelled : are_well_formed m ≡ true
+  pub ends_there : typed result_codec m ≡ staged_results ends

@@ -21,7 +21,8 @@ abbrev pub extents_above : FileBlock → Option FileBlock → List (FileBlock ×
 extents_above after to es = where_key pair_cmp (λ k. is_lt (pair_cmp after k) && is_under pair_cmp to k) es
 
 -- an extent, if there is one, with those behind it
-abbrev pub extents_left : Option (FileBlock × Extent) → Option FileBlock → List (FileBlock × Extent) → List (FileBlock × Extent)
+abbrev pub extents_left : Option (FileBlock × Extent) → Option FileBlock → List (FileBlock × Extent)
+    → List (FileBlock × Extent)
 extents_left None to es = []
 extents_left (Some e) to es = e ∷ extents_above e.0 to es
 

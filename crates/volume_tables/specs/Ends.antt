@@ -25,6 +25,25 @@ four_results of_kind =
     (Optimization, of_kind Optimization) ∷ (GarbageCollection, of_kind GarbageCollection)
     ∷ (Scrubbing, of_kind Scrubbing) ∷ (Unoptimization, of_kind Unoptimization) ∷ []
 
+-- once the last job of a kind ended so
+abbrev pub with_last : JobKind → ResultRecord → JobEnds → JobEnds
+with_last kind r ends = with_end kind (record (end_of kind ends) { last = r }) ends
+
+-- once the end of a kind is staged, or those of all
+abbrev pub staged_end : JobEnd → JobEnd
+staged_end end = record { last = end.last; staged = end.last }
+
+abbrev pub with_staged : JobKind → JobEnds → JobEnds
+with_staged kind ends = with_end kind (staged_end (end_of kind ends)) ends
+
+abbrev pub all_staged : JobEnds → JobEnds
+all_staged ends = record {
+  optimization = staged_end ends.optimization;
+  garbage_collection = staged_end ends.garbage_collection;
+  scrubbing = staged_end ends.scrubbing;
+  unoptimization = staged_end ends.unoptimization;
+}
+
 -- the table of results now
 abbrev pub results_now : JobEnds → List (JobKind × ResultRecord)
 results_now ends = four_results (λ kind. (end_of kind ends).last)

@@ -4,6 +4,7 @@ pub mod Spelled
 pub mod Contents
 pub mod Clusters
 pub mod Dropped
+pub mod Frames
 pub mod Faults
 pub mod Sizes
 pub mod Staging
@@ -11,3 +12,4 @@ pub mod Tables
 pub mod Mount
 pub mod Mounted
 pub mod Formats
+pub mod Counts

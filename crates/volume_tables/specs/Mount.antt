@@ -72,9 +72,11 @@ abbrev pub IsInnerFault : ℕ → DiskState → DiskState → MountFault → Typ
 IsInnerFault n old new NotVolume = ⊥
 IsInnerFault n old new (SizeDiffers said size) = ⊥
 IsInnerFault n old new (MetaDamaged half) = IsTrue old.tells → read_meta n old.image ≡ Err half
-IsInnerFault n old new (VersionUnknown found) = IsTrue old.tells → (m : Map) × (read_meta n old.image ≡ Ok m) × HasVersion found m
+IsInnerFault n old new (VersionUnknown found) =
+    IsTrue old.tells → (m : Map) × (read_meta n old.image ≡ Ok m) × HasVersion found m
 IsInnerFault n old new (BadTable rule) =
-    IsTrue old.tells → (m : Map) × (read_meta n old.image ≡ Ok m) × ((found : ℕ) → HasVersion found m → ⊥) × IsLeastBroken n m rule
+    IsTrue old.tells → (m : Map) × (read_meta n old.image ≡ Ok m) × ((found : ℕ) → HasVersion found m → ⊥)
+    × IsLeastBroken n m rule
 IsInnerFault n old new Failed = Rose old.faults new.faults
 IsInnerFault n old new Memory = Unit {0}
 

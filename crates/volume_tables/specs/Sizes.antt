@@ -1,5 +1,5 @@
--- How many bytes the value of the settings has.
-use Rattle.std.specs.Prelude.{◌+◌, ℕ, List, [], ◌∷◌}
+-- How many bytes the value of the settings has, and a checkpoint of tables.
+use Rattle.std.specs.Prelude.{◌+◌, ◌*◌, ℕ, List, [], ◌∷◌, length}
 use Rattle.table_records.specs.Texts.{list_bytes}
 use Rattle.table_records.specs.declared.settings.Settings.{Settings}
 use Rattle.volume_inside.specs.Typed.{Typed}
@@ -15,3 +15,24 @@ size_in (e ∷ es) = settings_size e.1
 -- the bytes of the settings' value in tables, which have one
 abbrev pub settings_size_of : Typed → ℕ
 settings_size_of t = size_in t.settings
+
+-- ---- a checkpoint has a record of each entry: five bytes, the spelled key and the spelled value
+
+-- fourteen bytes of each name, and its own
+abbrev pub name_bytes : List (List ℕ × ℕ) → ℕ
+name_bytes [] = 0
+name_bytes (e ∷ es) = 14 + (length e.0 + name_bytes es)
+
+-- six bytes of the settings, and those of their value
+abbrev pub setting_bytes : List (Unit {0} × Settings) → ℕ
+setting_bytes [] = 0
+setting_bytes (e ∷ es) = 6 + (settings_size e.1 + setting_bytes es)
+
+-- the bytes of a checkpoint of tables, behind a head of 45 bytes
+abbrev pub tables_bytes : Typed → ℕ
+tables_bytes t = 45 + (18 * length t.volume + (name_bytes t.names + (38 * length t.files + (24 * length t.extents
+    + (setting_bytes t.settings + 16 * length t.results)))))
+
+-- how many entries there are but for names
+abbrev pub others_in : Typed → ℕ
+others_in t = length t.volume + (length t.files + (length t.extents + (length t.settings + length t.results)))

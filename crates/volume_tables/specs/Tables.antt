@@ -1,5 +1,5 @@
 -- What the tables stand for.
-use Rattle.std.specs.Prelude.{◌≡◌, ◌⊎◌, ◌↔◌, ◌≤◌, ◌<◌, ◌+◌, ◌*◌, ℕ, Bool, List, Option, None, Some, IsSome, Result, IsOk, IsErrOf, OnOk, OnErr}
+use Rattle.std.specs.Prelude.{◌≡◌, ◌⊎◌, ◌↔◌, ◌≤◌, ◌<◌, ◌+◌, ◌*◌, ◌&&◌, ◌||◌, nat_lt, nat_eq, ℕ, Bool, List, Option, None, Some, IsSome, Result, IsOk, IsErrOf, OnOk, OnErr}
 use Rattle.std.specs.declared.cmp.Ordering.{Ordering}
 use Rattle.vdisk.specs.Disk.{DiskState}
 use Rattle.vdisk.specs.Steps.{Keeps}
@@ -19,10 +19,10 @@ use Rattle.volume_inside.specs.Named.{named, clusters_of}
 use Rattle.volume_inside.specs.Lists.{IsOut}
 use Rattle.volume_inside.specs.Shows.{Area, Shows, Kept}
 use Rattle.meta_log.specs.Log.{checkpoint_length}
-use Rattle.meta_log.specs.Meta.{meta_of}
+use Rattle.meta_log.specs.Meta.{meta_of, last_epoch}
 use Rattle.meta_log.specs.declared.log.MetaLog.{MetaLog}
 use Rattle.volume_tables.specs.Log.{log_state, log_now, log_staged, log_stopped, log_place, log_epoch, IsLogOf, IsSameLog}
-use Rattle.volume_tables.specs.Ends.{results_now}
+use Rattle.volume_tables.specs.Ends.{results_now, unstaged_in}
 use Rattle.volume_tables.specs.declared.ends.JobEnds.{JobEnds}
 use Rattle.vdisk.specs.declared.disk.Disk.{Ghosts}
 use Rattle.volume_tables.specs.declared.tables.Tables.{Tables}
@@ -80,6 +80,15 @@ module _ {D : Type 0} {d : Ghosts D} where
   abbrev pub stopped : Tables D d → Bool
   stopped t = log_stopped t.log
 
+  -- the bytes of the records that a commit now makes durable: those that are staged, and 16 of each result that is not
+  abbrev pub due_of : Tables D d → ℕ
+  due_of t = staged_of t + 16 * unstaged_in t.ends
+
+  -- a commit now would be refused as worn: one was, or it needs a new checkpoint and the last epoch is used up
+  abbrev pub would_wear : Tables D d → Bool
+  would_wear t = t.worn
+      || ((nat_lt 0 (due_of t) && nat_lt t.log.half (t.log.place + (37 + due_of t))) && nat_eq t.log.epoch last_epoch)
+
   -- Each crash image spells the stored tables, which name no byte of the journal and no free cluster.
   pub record IsTables (t : Tables D d) (stored : Typed) : Type 0 where
     pub map : Map
@@ -102,7 +111,7 @@ module _ {D : Type 0} {d : Ghosts D} where
         → Keeps (disk_of old) (disk_of new) (Shows (area_of old) w)
     pub same : IsSameLog old.log new.log
     pub later : (disk_of old).faults ≤ (disk_of new).faults
-    -- a commit needs a new checkpoint, and is worn, as before
+    -- where the next group goes, the epoch, and whether a commit was worn
     pub place : log_place new.log ≡ log_place old.log
     pub epoch : log_epoch new.log ≡ log_epoch old.log
     pub worn : new.worn ≡ old.worn

@@ -10,11 +10,12 @@ ghost use Rattle.plain_volume.specs.Volume.{Volume};
 ghost use Rattle.volume_inside.specs.Layout.{first_data_cluster, IsDataCluster};
 ghost use Rattle.volume_inside.specs.Lists.{IsOut};
 ghost use Rattle.volume_inside.specs.Named.{clusters_of};
-ghost use Rattle.volume_inside.specs.Inside.{cluster_bytes};
+ghost use Rattle.volume_inside.specs.Inside.{cluster_bytes, inside_at};
 ghost use Rattle.volume_inside.specs.Typed.{Typed};
 ghost use Rattle.volume_inside.specs.Shows.{Shows, Kept};
 ghost use Rattle.volume_tables.specs.Log.{log_place, log_epoch, IsSameLog};
 ghost use Rattle.volume_tables.specs.Clusters.{HasState, used_at, deferred_at, deferred_unless};
+ghost use Rattle.volume_tables.specs.Frames.{NamesNoFree, IsOneUsed};
 
 use crate::fault;
 use crate::tables::Tables;
@@ -123,7 +124,8 @@ impl<D: Disk> Tables<D> {
         fault::of_log(self.log.write_data(4096 * cluster as u64, bytes))
     }
 
-    /// Takes a free cluster and writes it. Neither the stored tables nor those now name it. A refusal stops the tables.
+    /// Takes a free cluster and writes it. Neither the stored tables nor those now name it. A refusal stops the tables,
+    /// and the cluster stays used.
     pub fn write_cluster(&mut self, bytes: &[u8; 4096]) -> Result<u32, Fault>
         requires running { stopped self.old ≡ false }
         requires some { 0 < free_in (states_of self.old) }
@@ -135,10 +137,14 @@ impl<D: Disk> Tables<D> {
         ensures written { (stored : Typed) → IsTables self.old stored →
             IfOk result (λ cluster. cluster_bytes cluster (disk_of self.new).image ≡ bytes.now) }
         ensures same { inside_now self.new ≡ inside_now self.old }
+        ensures frame { (t : Typed) → NamesNoFree self.old.clusters (states_of self.old) t →
+            inside_at t (disk_of self.new).image ≡ inside_at t (disk_of self.old).image }
         ensures leaves { Leaves self.old self.new }
         ensures numbers { (staged_of self.new ≡ staged_of self.old) × (checkpoint_of self.new ≡
             checkpoint_of self.old) }
         ensures runs { OnOk result (stopped self.new ≡ false) }
+        ensures stops { OnErr result (stopped self.new ≡ true) }
+        ensures lost { OnErr result (IsOneUsed self.old.clusters (states_of self.old) (states_of self.new)) }
         ensures failed { OnErr result (IsErrOf result Fault.Failed ×
             Rose (disk_of self.old).faults (disk_of self.new).faults) }
     {

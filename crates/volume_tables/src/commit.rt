@@ -1,24 +1,23 @@
 //! The tables become durable.
 
-ghost use Rattle.std.specs.Prelude.{◌≡◌, ◌⊎◌, ◌↔◌, ◌≤◌, ◌^◌, ◌-◌, ℕ, List, IsTrue, false, true, map, OnOk, OnErr, IsErrOf};
+ghost use Rattle.std.specs.Prelude.{◌≡◌, ◌⊎◌, ◌↔◌, ◌≤◌, ◌+◌, ℕ, List, IsTrue, false, true, map, IsOk, OnOk, OnErr, IsErrOf};
 ghost use Rattle.vdisk.specs.Causes.{Rose};
 ghost use Rattle.vdisk.specs.Steps.{Keeps};
 ghost use Rattle.cluster_space.specs.States.{released};
 ghost use Rattle.plain_volume.specs.Volume.{Volume};
-ghost use Rattle.meta_log.specs.Log.{needs_checkpoint};
-ghost use Rattle.meta_log.specs.Meta.{last_epoch};
 ghost use Rattle.volume_inside.specs.Typed.{Typed};
 ghost use Rattle.volume_inside.specs.Rules.{RulesHold};
 ghost use Rattle.volume_inside.specs.Shows.{Kept, ShowsEither};
-ghost use Rattle.volume_tables.specs.Log.{IsSameLog};
+ghost use Rattle.volume_tables.specs.Log.{log_epoch, IsSameLog};
 
 use crate::fault;
+use crate::results::stage_ends;
 use crate::tables::Tables;
 use plain_volume::Fault;
 use vdisk::Disk;
 
 impl<D: Disk> Tables<D> {
-    ghost use Rattle.volume_tables.specs.Tables.{tables_now, inside_now, view_now, states_of, staged_of, checkpoint_of, disk_of, area_of, stopped, IsTables, IsStoredAs};
+    ghost use Rattle.volume_tables.specs.Tables.{tables_now, inside_now, view_now, states_of, staged_of, checkpoint_of, disk_of, area_of, due_of, would_wear, stopped, IsTables, IsStoredAs};
 
     /// Commits what is staged, and leaves the states of the clusters.
     fn commit_log(&mut self) -> Result<(), Fault>
@@ -38,17 +37,32 @@ impl<D: Disk> Tables<D> {
         ensures clusters { self.new.clusters ≡ self.old.clusters }
         ensures checkpoint { checkpoint_of self.new ≡ checkpoint_of self.old }
         ensures staged { OnOk result (staged_of self.new ≡ 0) }
-        ensures worn { IsErrOf result Fault.Worn ↔ (IsTrue (needs_checkpoint self.old.log) ×
-            (self.old.log.epoch ≡ last_epoch)) }
-        ensures unspent { IsErrOf result Fault.Worn → self.new.log ≡ self.old.log }
+        ensures worn { IsErrOf result Fault.Worn ↔ IsTrue (would_wear self.old) }
+        ensures wears { IsErrOf result Fault.Worn → self.new.worn ≡ true }
+        ensures fresh { OnOk result (self.new.worn ≡ false) }
+        ensures unspent { IsErrOf result Fault.Worn → self.new.log.disk ≡ self.old.log.disk }
+        ensures still_stored { (stored : Typed) → IsTables self.old stored →
+            IsErrOf result Fault.Worn → IsTables self.new stored }
+        ensures idle { due_of self.old ≡ 0 → self.new.log.disk ≡ self.old.log.disk }
+        ensures idle_ok { due_of self.old ≡ 0 → self.old.worn ≡ false → IsOk result }
+        ensures nothing_due { OnOk result (due_of self.new ≡ 0) }
+        ensures epoch { stopped self.new ≡ false → log_epoch self.new.log ≤ log_epoch self.old.log + 1 }
+        ensures moment { (disk_of self.old).moment ≤ (disk_of self.new).moment }
         ensures failed { IsErrOf result Fault.Failed →
             Rose (disk_of self.old).faults (disk_of self.new).faults × (stopped self.new ≡ true) }
         ensures refused { OnErr result (IsErrOf result Fault.Worn ⊎ IsErrOf result Fault.Failed) }
         ensures runs { OnOk result (stopped self.new ≡ false) }
+        ensures still_runs { IsErrOf result Fault.Worn → stopped self.new ≡ false }
         ensures later { (disk_of self.old).faults ≤ (disk_of self.new).faults }
         ensures same { IsSameLog self.old.log self.new.log }
     {
-        fault::of_log(self.log.commit())
+        if self.worn {
+            return Err(Fault::Worn);
+        }
+        stage_ends(&mut self.log, &mut self.ends);
+        let answer = fault::of_log(self.log.commit());
+        self.worn = fault::is_worn(&answer);
+        answer
     }
 
     /// Makes what was deferred free.
@@ -57,13 +71,16 @@ impl<D: Disk> Tables<D> {
         ensures log { self.new.log ≡ self.old.log }
         ensures tables { tables_now self.new ≡ tables_now self.old }
         ensures clusters { self.new.clusters ≡ self.old.clusters }
+        ensures ends { self.new.ends ≡ self.old.ends }
+        ensures worn { self.new.worn ≡ self.old.worn }
     {
         self.space.release_all();
     }
 
-    /// Makes the tables durable, which meet the rules. A crash at any moment shows what was kept, or the tables now;
-    /// after Ok the tables now are kept, and clusters that were deferred are free. After `Worn` nothing has changed,
-    /// and after `Failed` the tables are stopped.
+    /// Makes the tables durable, which meet the rules, with the results of jobs. A crash at any moment shows what was
+    /// kept, or the tables now; after Ok the tables now are kept, and clusters that were deferred are free. After
+    /// `Worn` what is stored is as it was, the tables now are too, and each later commit is refused so; after `Failed`
+    /// the tables are stopped. Where nothing is due the disk is not called.
     pub fn commit(&mut self) -> Result<(), Fault>
         requires running { stopped self.old ≡ false }
         requires rules { RulesHold self.old.clusters (tables_now self.old) }
@@ -81,14 +98,23 @@ impl<D: Disk> Tables<D> {
         ensures clusters { self.new.clusters ≡ self.old.clusters }
         ensures checkpoint { checkpoint_of self.new ≡ checkpoint_of self.old }
         ensures staged { OnOk result (staged_of self.new ≡ 0) }
-        ensures worn { IsErrOf result Fault.Worn ↔ (IsTrue (needs_checkpoint self.old.log) ×
-            (self.old.log.epoch ≡ last_epoch)) }
+        ensures worn { IsErrOf result Fault.Worn ↔ IsTrue (would_wear self.old) }
+        ensures wears { IsErrOf result Fault.Worn → self.new.worn ≡ true }
+        ensures fresh { OnOk result (self.new.worn ≡ false) }
         ensures unspent { IsErrOf result Fault.Worn →
-            (self.new.log ≡ self.old.log) × (states_of self.new ≡ states_of self.old) }
+            (self.new.log.disk ≡ self.old.log.disk) × (states_of self.new ≡ states_of self.old) }
+        ensures still_stored { (stored : Typed) → IsTables self.old stored →
+            IsErrOf result Fault.Worn → IsTables self.new stored }
+        ensures idle { due_of self.old ≡ 0 → self.new.log.disk ≡ self.old.log.disk }
+        ensures idle_ok { due_of self.old ≡ 0 → self.old.worn ≡ false → IsOk result }
+        ensures nothing_due { OnOk result (due_of self.new ≡ 0) }
+        ensures epoch { stopped self.new ≡ false → log_epoch self.new.log ≤ log_epoch self.old.log + 1 }
+        ensures moment { (disk_of self.old).moment ≤ (disk_of self.new).moment }
         ensures failed { IsErrOf result Fault.Failed →
             Rose (disk_of self.old).faults (disk_of self.new).faults × (stopped self.new ≡ true) }
         ensures refused { OnErr result (IsErrOf result Fault.Worn ⊎ IsErrOf result Fault.Failed) }
         ensures runs { OnOk result (stopped self.new ≡ false) }
+        ensures still_runs { IsErrOf result Fault.Worn → stopped self.new ≡ false }
         ensures later { (disk_of self.old).faults ≤ (disk_of self.new).faults }
         ensures same { IsSameLog self.old.log self.new.log }
     {

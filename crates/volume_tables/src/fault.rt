@@ -1,6 +1,6 @@
 //! What refusals of the journal are for the tables.
 
-ghost use Rattle.std.specs.Prelude.{◌≡◌};
+ghost use Rattle.std.specs.Prelude.{◌≡◌, ◌↔◌, IsTrue, IsErrOf};
 ghost use Rattle.volume_tables.specs.Faults.{answer_of};
 
 use meta_log::MetaFault;
@@ -18,4 +18,10 @@ pub(crate) fn of_log(answer: Result<(), MetaFault>) -> Result<(), Fault>
         Err(MetaFault::Failed | MetaFault::Damaged(_)) => Err(Fault::Failed),
         Err(MetaFault::Memory | MetaFault::GroupFull) => Err(Fault::Memory),
     }
+}
+
+pub(crate) fn is_worn(answer: &Result<(), Fault>) -> bool
+    ensures { IsTrue result ↔ IsErrOf answer.now Fault.Worn }
+{
+    matches!(answer, Err(Fault::Worn))
 }

@@ -12,10 +12,15 @@ ghost use Rattle.volume_inside.specs.Fresh.{fresh_map, fresh_settings, fresh_tab
 ghost use Rattle.volume_inside.specs.Layout.{journal_at, half_bytes as half_of};
 ghost use Rattle.table_rules.specs.Found.{AreRecordsOf};
 ghost use Rattle.table_rules.specs.Marks.{IsFilled};
+ghost use Rattle.volume_inside.specs.Named.{clusters_of};
+ghost use Rattle.volume_inside.specs.Rules.{RulesHold};
 ghost use Rattle.volume_inside.specs.Superblock.{IsSuperblock, HasSuperblock};
+ghost use Rattle.vdisk.specs.Steps.{Keeps};
 ghost use Rattle.volume_tables.specs.Formats.{IsCommitted, IsFormatFault, with_results};
+ghost use Rattle.volume_tables.specs.Formats.{IsBegun, IsMakeImage, SpellsNoFile};
 ghost use Rattle.volume_inside.specs.Shows.{Kept};
-ghost use Rattle.volume_tables.specs.Tables.{tables_now, area_of, disk_of, staged_of as staged_in, stopped, IsTables};
+ghost use Rattle.volume_tables.specs.Tables.{tables_now, area_of, disk_of, states_of};
+ghost use Rattle.volume_tables.specs.Tables.{staged_of as staged_in, stopped, IsTables};
 
 use crate::mounting::{assemble, of_log};
 use crate::tables::Tables;
@@ -58,6 +63,7 @@ fn prepare<D: Disk>(disk: &mut D, clusters: u32, superblock: &[u8]) -> Result<()
     ensures written { IsTrue (D.state disk.old).tells → OnOk result (HasSuperblock clusters (D.state disk.new).image) }
     ensures size { OnOk result (length (D.state disk.new).image ≡ 4096 * clusters) }
     ensures tells { (D.state disk.new).tells ≡ (D.state disk.old).tells }
+    ensures moments { Keeps (D.state disk.old) (D.state disk.new) (IsBegun clusters (D.state disk.old)) }
     ensures same { D.is_same disk.old disk.new }
     ensures cause { HasCause (D.state disk.old).faults (D.state disk.new).faults result }
 {
@@ -123,6 +129,11 @@ fn commit_first<D: Disk>(
     ensures log { IsLog log [] → IfOk result (λ new. IsLog new fresh_map) }
     ensures settled { IsLog log [] → IfOk result (λ new. (c : List ℕ) → (state_of new).may_leave c →
         IsCommitted log.at log.half (state_of log).image c) }
+    ensures moments { IsLog log [] → IfOk result (λ new. Keeps (state_of log) (state_of new)
+        (SpellsNoFile log.at log.half (length (state_of log).image))) }
+    ensures moments_err { IsLog log [] → IfErr result (λ e. Keeps (state_of log) (D.state e.0)
+        (SpellsNoFile log.at log.half (length (state_of log).image))) }
+    ensures later { IfOk result (λ new. (state_of log).faults ≤ (state_of new).faults) }
     ensures size { IfOk result (λ new. length (state_of new).image ≡ length (state_of log).image) }
     ensures at { IfOk result (λ new. new.at ≡ log.at) }
     ensures half { IfOk result (λ new. new.half ≡ log.half) }
@@ -190,6 +201,10 @@ fn make_log<D: Disk>(
     ensures runs { IfOk result (λ log. log.stopped ≡ false) }
     ensures refused { IfErr result (λ e. ((e.1 ≡ MountFault.Failed) × Rose (D.state disk).faults (D.state e.0).faults)
         ⊎ (e.1 ≡ MountFault.Memory)) }
+    ensures moments { IsTrue (D.state disk).tells →
+        IfOk result (λ log. Keeps (D.state disk) (state_of log) (IsMakeImage clusters (D.state disk))) }
+    ensures moments_err { IsTrue (D.state disk).tells →
+        IfErr result (λ e. Keeps (D.state disk) (D.state e.0) (IsMakeImage clusters (D.state disk))) }
     ensures later { IfOk result (λ log. (D.state disk).faults ≤ (state_of log).faults) }
     ensures same { IfOk result (λ log. D.is_same disk log.disk) }
     ensures same_err { IfErr result (λ e. D.is_same disk e.0) }
@@ -239,10 +254,17 @@ fn make<D: Disk>(alloc: Global, disk: D, clusters: u32) -> Result<Tables<D>, (D,
     ensures tables { IsTrue (D.state disk).tells → IfOk result (λ tables. IsTables tables fresh_tables) }
     ensures kept { IsTrue (D.state disk).tells → IfOk result (λ tables. Kept (area_of tables) (disk_of tables) []) }
     ensures now { IfOk result (λ tables. tables_now tables ≡ fresh_tables) }
+    ensures space { IfOk result (λ tables. IsFilled clusters (clusters_of (tables_now tables)) (states_of tables)) }
+    ensures rules { IfOk result (λ tables. RulesHold clusters (tables_now tables)) }
     ensures clusters { IfOk result (λ tables. tables.clusters ≡ clusters) }
     ensures staged { IfOk result (λ tables. staged_in tables ≡ 0) }
     ensures runs { IfOk result (λ tables. stopped tables ≡ false) }
     ensures fresh { IfOk result (λ tables. tables.worn ≡ false) }
+    ensures moments { IsTrue (D.state disk).tells →
+        IfOk result (λ tables. Keeps (D.state disk) (disk_of tables) (IsMakeImage clusters (D.state disk))) }
+    ensures moments_err { IsTrue (D.state disk).tells →
+        IfErr result (λ e. Keeps (D.state disk) (D.state e.0) (IsMakeImage clusters (D.state disk))) }
+    ensures later { IfOk result (λ tables. (D.state disk).faults ≤ (disk_of tables).faults) }
     ensures refused { IfErr result (λ e. IsFormatFault clusters (D.state disk) (D.state e.0) e.1) }
     ensures same { IfOk result (λ tables. D.is_same disk tables.log.disk) }
     ensures same_err { IfErr result (λ e. D.is_same disk e.0) }
@@ -264,17 +286,28 @@ fn make<D: Disk>(alloc: Global, disk: D, clusters: u32) -> Result<Tables<D>, (D,
 impl<D: Disk> Tables<D> {
     /// Makes a fresh volume of so many clusters, from 4,096 to 1,048,576, with no file. A disk that is shorter grows;
     /// one that is longer is refused, as it was, with the bytes that were asked for and the bytes that it has. Other
-    /// refusals hand the disk back too, maybe with a part of the volume made.
+    /// refusals hand the disk back too, maybe with a part of the volume made. A crash leaves an image with no file, or
+    /// one that is not mounted, from when the gates of the journal are closed; before that an older state of a volume
+    /// that stood on the disk may show.
     pub fn format(alloc: Global, disk: D, clusters: u32) -> Result<Tables<D>, (D, MountFault)>
         requires least { 4096 ≤ clusters }
         requires most { clusters ≤ 1048576 }
         ensures tables { IsTrue (D.state disk).tells → IfOk result (λ tables. IsTables tables fresh_tables) }
         ensures kept { IsTrue (D.state disk).tells → IfOk result (λ tables. Kept (area_of tables) (disk_of tables) []) }
         ensures now { IfOk result (λ tables. tables_now tables ≡ fresh_tables) }
+        ensures space { IfOk result
+            (λ tables. IsFilled tables.clusters (clusters_of (tables_now tables)) (states_of tables)) }
+        ensures rules { IfOk result (λ tables. RulesHold tables.clusters (tables_now tables)) }
         ensures clusters { IfOk result (λ tables. tables.clusters ≡ clusters) }
         ensures staged { IfOk result (λ tables. staged_in tables ≡ 0) }
         ensures runs { IfOk result (λ tables. stopped tables ≡ false) }
         ensures fresh { IfOk result (λ tables. tables.worn ≡ false) }
+        ensures moments { IsTrue (D.state disk).tells →
+            IfOk result (λ tables. Keeps (D.state disk) (disk_of tables) (IsMakeImage clusters (D.state disk))) }
+        ensures moments_err { IsTrue (D.state disk).tells →
+            IfErr result (λ e. Keeps (D.state disk) (D.state e.0) (IsMakeImage clusters (D.state disk))) }
+        ensures later { IfOk result (λ tables. (D.state disk).faults ≤ (disk_of tables).faults) }
+        ensures longer { 4096 * clusters < length (D.state disk).image → IfErr result (λ e. e.0 ≡ disk) }
         ensures fits { OnOk result (length (D.state disk).image ≤ 4096 * clusters) }
         ensures refused { IfErr result (λ e. IsFormatFault clusters (D.state disk) (D.state e.0) e.1) }
         ensures same { IfOk result (λ tables. D.is_same disk tables.log.disk) }

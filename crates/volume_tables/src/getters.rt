@@ -38,6 +38,13 @@ impl<D: Disk> Tables<D> {
         }
     }
 
+    /// How many names there are.
+    pub fn name_count(&self) -> u64
+        ensures { result ≡ length (tables_now self.now).names }
+    {
+        self.names
+    }
+
     /// The record of a file.
     pub fn get_file(&self, id: u64) -> Option<FileRecord>
         ensures { result ≡ find nat_cmp id (tables_now self.now).files }

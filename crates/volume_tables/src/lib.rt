@@ -12,10 +12,12 @@ mod formatting;
 mod front;
 mod getters;
 mod ids;
+mod laws;
 mod mounting;
 mod raw;
 mod raw_names;
 mod raw_settings;
+mod results;
 mod room;
 mod setters;
 mod settings;
@@ -25,6 +27,10 @@ mod tests;
 
 pub use client::write_block;
 pub use ids::LAST_ID;
+pub use laws::{
+    results_of_known_numbers_keep_the_rules, settings_in_their_ranges_keep_the_rules,
+    tables_are_in_order, tables_tell_their_checkpoint,
+};
 pub use room::MOST_RECORDS;
 pub use table_records::{Extent, FileRecord, JobKind, JobResult, ResultRecord, Settings, Texts};
 pub use tables::Tables;

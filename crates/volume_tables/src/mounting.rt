@@ -10,7 +10,7 @@ ghost use Rattle.table_rules.specs.Marks.{IsFilled};
 ghost use Rattle.volume_inside.specs.InsideOf.{InsideOf};
 ghost use Rattle.volume_inside.specs.Layout.{half_bytes as half_of, journal_at};
 ghost use Rattle.volume_inside.specs.Named.{clusters_of};
-ghost use Rattle.volume_inside.specs.Rules.{IsVolume};
+ghost use Rattle.volume_inside.specs.Rules.{IsVolume, RulesHold};
 ghost use Rattle.volume_inside.specs.Shows.{Kept};
 ghost use Rattle.volume_inside.specs.Typed.{typed_of};
 ghost use Rattle.volume_tables.specs.Mount.{read_meta, ends_from, IsLogFault};
@@ -22,6 +22,7 @@ ghost use Rattle.volume_tables.specs.Tables.{disk_of, states_of, staged_of as st
 
 use crate::ends::{JobEnd, JobEnds};
 use crate::front::read_front;
+use crate::raw_names;
 use crate::tables::Tables;
 use meta_log::{MetaFault, MetaLog};
 use std::alloc::Global;
@@ -106,6 +107,7 @@ pub(crate) fn assemble<D: Disk>(log: MetaLog<D>, clusters: u32, found: Checked) 
     ensures clusters { result.clusters ≡ clusters }
     ensures space { result.space ≡ found.space }
     ensures tables { tables_now result ≡ typed_of (log_now log) }
+    ensures rules { RulesHold clusters (tables_now result) }
     ensures worn { result.worn ≡ false }
 {
     let Checked { records, space } = found;
@@ -115,11 +117,13 @@ pub(crate) fn assemble<D: Disk>(log: MetaLog<D>, clusters: u32, found: Checked) 
         results,
     } = records;
     let ends = ends_of(results);
+    let names = raw_names::count_names(&log);
     Tables {
         log,
         space,
         clusters,
         next_id,
+        names,
         settings,
         ends,
         worn: false,
@@ -142,6 +146,7 @@ fn open_tables<D: Disk>(alloc: Global, disk: D, clusters: u32) -> Result<Tables<
     ensures runs { IfOk result (λ tables. stopped tables ≡ false) }
     ensures fresh { IfOk result (λ tables. tables.worn ≡ false) }
     ensures space { IfOk result (λ tables. IsFilled clusters (clusters_of (tables_now tables)) (states_of tables)) }
+    ensures rules { IfOk result (λ tables. RulesHold clusters (tables_now tables)) }
 {
     let log = match open_log(alloc, disk, clusters) {
         Ok(log) => log,
@@ -170,6 +175,7 @@ impl<D: Disk> Tables<D> {
         ensures same_err { IfErr result (λ e. D.is_same disk e.0) }
         ensures space { IfOk result
             (λ tables. IsFilled tables.clusters (clusters_of (tables_now tables)) (states_of tables)) }
+        ensures rules { IfOk result (λ tables. RulesHold tables.clusters (tables_now tables)) }
         ensures staged { IfOk result (λ tables. staged_in tables ≡ 0) }
         ensures runs { IfOk result (λ tables. stopped tables ≡ false) }
         ensures fresh { IfOk result (λ tables. tables.worn ≡ false) }

@@ -9,6 +9,7 @@ ghost use Rattle.table_records.specs.Tables.{name_codec};
 ghost use Rattle.volume_tables.specs.Log.{log_now, log_staged};
 ghost use Rattle.volume_tables.specs.Contents.{SortedAnd};
 ghost use Rattle.volume_tables.specs.Staging.{IsStagedPut, IsStagedDrop};
+ghost use Rattle.volume_tables.specs.Counts.{one_if_key};
 
 use crate::fault;
 use meta_log::MetaLog;
@@ -107,4 +108,26 @@ pub(crate) fn drop_name_range<D: Disk>(log: &mut MetaLog<D>, from: &[u8], to: Op
         Some(to) => drop_names(log, from, to),
         None => drop_names_from(log, from),
     }
+}
+
+/// 1 where a key is a name, and else 0.
+fn name_at(key: &[u8]) -> u64
+    ensures { result ≡ one_if_key (name_codec.read_key key.now) }
+{
+    match Names::read_key(key) {
+        Some(_) => 1,
+        None => 0,
+    }
+}
+
+/// How many names there are.
+pub(crate) fn count_names<D: Disk>(log: &MetaLog<D>) -> u64
+    ensures { result ≡ length (typed name_codec (log_now log.now)) }
+{
+    let mut count = 0;
+    let mut walk = log.pairs().walk();
+    while let Some((key, _)) = walk.next() {
+        count += name_at(key);
+    }
+    count
 }

@@ -6,6 +6,7 @@ ghost use Rattle.std.specs.Ordering.{nat_cmp};
 ghost use Rattle.std.specs.FinMap.Entries.{find};
 ghost use Rattle.byte_map.specs.Words.{bytes_cmp};
 ghost use Rattle.table_records.specs.Changes.{is_in_range};
+ghost use Rattle.volume_tables.specs.Log.{log_now};
 ghost use Rattle.volume_inside.specs.Changes.{with_name, with_file, keep_names, keep_files};
 
 use crate::tables::Tables;
@@ -16,6 +17,13 @@ use vdisk::Disk;
 
 impl<D: Disk> Tables<D> {
     ghost use Rattle.volume_tables.specs.Tables.{tables_now, states_of, staged_of, checkpoint_of, disk_of, stopped, Leaves, IsSet};
+
+    /// How many pairs of the journal's map are no names. Setting and dropping names leaves this.
+    fn other_pairs(&self) -> u64
+        ensures { result + self.now.names ≡ length (log_now self.now.log) }
+    {
+        self.log.pairs().count() as u64 - self.names
+    }
 
     /// Sets the file of a name, which has at most 255 bytes. Room for 14 bytes of records and those of the name was
     /// ensured.
@@ -29,11 +37,14 @@ impl<D: Disk> Tables<D> {
         ensures leaves { Leaves self.old self.new }
         ensures states { states_of self.new ≡ states_of self.old }
     {
-        raw_names::put_name(&mut self.log, name, id)
+        let others = self.other_pairs();
+        let answer = raw_names::put_name(&mut self.log, name, id);
+        self.names = self.log.pairs().count() as u64 - others;
+        answer
     }
 
-    /// Drops the names from one on, all of them or those below another. Each has at most 255 bytes. Room for 262 bytes of
-    /// records and those of the first name was ensured.
+    /// Drops the names from one on, all of them or those below another. Each has at most 255 bytes. Room for 262
+    /// bytes of records and those of the first name was ensured.
     pub fn drop_name(&mut self, from: &[u8], to: Option<&[u8]>)
         requires short { length from.now ≤ 255 }
         requires short_end { IfSome to (λ name. length name.now ≤ 255) }
@@ -48,7 +59,9 @@ impl<D: Disk> Tables<D> {
         ensures image { (disk_of self.new).image ≡ (disk_of self.old).image }
         ensures running { stopped self.new ≡ stopped self.old }
     {
+        let others = self.other_pairs();
         raw_names::drop_name_range(&mut self.log, from, to);
+        self.names = self.log.pairs().count() as u64 - others;
     }
 
     /// Sets the record of a file. Room for 38 bytes of records was ensured.

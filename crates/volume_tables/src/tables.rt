@@ -4,7 +4,6 @@ ghost use Rattle.std.specs.Prelude.{◌≡◌, ◌≤◌, ◌*◌, ◌-◌, ◌^
 ghost use Rattle.volume_inside.specs.Layout.{half_bytes, journal_at, data_clusters};
 ghost use Rattle.volume_inside.specs.Typed.{typed_of};
 ghost use Rattle.volume_tables.specs.Log.{log_state, log_now, log_staged, log_stopped};
-ghost use Rattle.volume_tables.specs.Ends.{staged_results, results_now};
 ghost use Rattle.volume_tables.specs.Contents.{HasContents};
 ghost use Rattle.volume_tables.specs.Clusters.{AreHeld, held_prop};
 
@@ -23,6 +22,8 @@ pub struct Tables<D: Disk> {
     /// How many clusters the image has.
     pub(crate) clusters: u32,
     pub(crate) next_id: u64,
+    /// How many names there are.
+    pub(crate) names: u64,
     pub(crate) settings: Settings,
     pub(crate) ends: JobEnds,
     /// Whether a commit was refused because the last epoch is used up.
@@ -34,9 +35,9 @@ pub struct Tables<D: Disk> {
     ghost size: { length (log_state log).image ≡ 4096 * clusters },
     ghost spaces: { length space ≡ data_clusters clusters },
     ghost last_id: { next_id ≤ 2 ^ 48 - 1 },
+    ghost named: { names ≡ length (typed_of (log_now log)).names },
     ghost contents: { HasContents (log_now log) next_id settings ends },
     ghost held: { AreHeld clusters space (typed_of (log_now log)) } by { held_prop _ _ (typed_of (log_now log)) },
-    ghost settled: { staged_results ends ≡ results_now ends },
     // Room is left for the records of four results.
     ghost few: { log_stopped log ≡ false → worn ≡ false → log_staged log ≤ 65472 },
 }

@@ -3,6 +3,7 @@
 mod formats;
 mod many;
 mod mounts;
+mod results;
 
 use crate::Tables;
 use std::alloc::Global;

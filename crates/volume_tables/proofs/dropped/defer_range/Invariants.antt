@@ -12,7 +12,8 @@ invariant-loop-next g l =
     let es = typed extent_codec (log_now l.log) in
     record {
       used : AreUsedOnce l.first l.space (extents_left l.next l.to es);
-      same : all_deferred l.first (extents_left l.next l.to es) l.space ≡ all_deferred l.first (extents_in l.fn.from l.to es) l.fn.space;
+      same : all_deferred l.first (extents_left l.next l.to es) l.space ≡ all_deferred l.first
+          (extents_in l.fn.from l.to es) l.fn.space;
     }
 
 abbrev pub decreases-loop-next : goal.decreases-loop-next

@@ -12,16 +12,19 @@ use Rattle.volume_tables.proofs.dropped.next_in_range.Goals as goal
 pub returns-in-None : goal.returns-in-None
 returns-in-None g c =
     let es = typed extent_codec (log_now c.args.log.now) in
-    next_none c.args.after c.args.to es (sorted_typed extent_codec (log_now c.args.log.now) c.requires.sorted) (sym (c.next.ensures c.requires) ∙ c.in-None.is)
+    next_none c.args.after c.args.to es (sorted_typed extent_codec (log_now c.args.log.now) c.requires.sorted)
+    (sym (c.next.ensures c.requires) ∙ c.in-None.is)
 
 pub returns-then-is_below : goal.returns-then-is_below
 returns-then-is_below g c =
     let es = typed extent_codec (log_now c.args.log.now) in
     let under : is_under pair_cmp c.args.to c.in-Some.key ≡ true = sym c.is_below.ensures ∙ c.if-is_below.true in
-    next_left c.args.after c.args.to es (sorted_typed extent_codec (log_now c.args.log.now) c.requires.sorted) (c.in-Some.key, c.in-Some.extent) (sym (c.next.ensures c.requires) ∙ c.in-Some.is) under
+    next_left c.args.after c.args.to es (sorted_typed extent_codec (log_now c.args.log.now) c.requires.sorted)
+    (c.in-Some.key, c.in-Some.extent) (sym (c.next.ensures c.requires) ∙ c.in-Some.is) under
 
 pub returns-else-is_below : goal.returns-else-is_below
 returns-else-is_below g c =
     let es = typed extent_codec (log_now c.args.log.now) in
     let under : is_under pair_cmp c.args.to c.in-Some.key ≡ false = sym c.is_below.ensures ∙ c.if-is_below.false in
-    next_past c.args.after c.args.to es (sorted_typed extent_codec (log_now c.args.log.now) c.requires.sorted) (c.in-Some.key, c.in-Some.extent) (sym (c.next.ensures c.requires) ∙ c.in-Some.is) under
+    next_past c.args.after c.args.to es (sorted_typed extent_codec (log_now c.args.log.now) c.requires.sorted)
+    (c.in-Some.key, c.in-Some.extent) (sym (c.next.ensures c.requires) ∙ c.in-Some.is) under

@@ -1,7 +1,10 @@
-use Rattle.std.proofs.Common.{[], ap, subst}
+use Rattle.std.proofs.Common.{[], ap, subst, sym, ◌∙◌, length, inr, refl}
 use Rattle.byte_map.specs.Words.{Map}
-use Rattle.meta_log.specs.Log.{IsLog}
+use Rattle.meta_log.specs.Log.{IsLog, state_of, now_of}
+use Rattle.vdisk.specs.Steps.{Keeps}
+use Rattle.volume_tables.specs.Formats.{SpellsNoFile}
 use Rattle.volume_tables.proofs.Committed.{committed}
+use Rattle.volume_tables.proofs.Formatted.{first_start, first_committed, first_staged}
 use Rattle.volume_tables.proofs.formatting.commit_first.Goals as goal
 
 pub returns-in-Ok-commit-clause-log : goal.returns-in-Ok-commit-clause-log
@@ -12,6 +15,63 @@ returns-in-Ok-commit-clause-log g c log =
 pub returns-in-Ok-commit-clause-settled : goal.returns-in-Ok-commit-clause-settled
 returns-in-Ok-commit-clause-settled g c log image left =
     let staged = c.stage_first.new.log in
-    committed c.args.log.at c.args.log.half staged.at staged.half (g.D.Disk.state staged.disk) (g.D.Disk.state c.args.log.disk).image staged.map image
-    c.stage_first.ensures.at c.stage_first.ensures.half c.in-Ok.ensures.now (ap (λ (disk : g.row.D.Denot). (g.D.Disk.state disk).image) c.stage_first.ensures.disk)
+    committed c.args.log.at c.args.log.half staged.at staged.half (g.D.Disk.state staged.disk)
+    (g.D.Disk.state c.args.log.disk).image staged.map image
+    c.stage_first.ensures.at c.stage_first.ensures.half c.in-Ok.ensures.now
+    (ap (λ (disk : g.row.D.Denot). (g.D.Disk.state disk).image) c.stage_first.ensures.disk)
     (c.in-Ok-commit.ensures.settled [] (c.stage_first.ensures.log [] log) image left)
+
+pub returns-in-Err-clause-moments_err : goal.returns-in-Err-clause-moments_err
+returns-in-Err-clause-moments_err g c log =
+    let l = c.args.log in
+    subst (λ (x : g.row.D.Denot). Keeps (state_of l) (g.D.Disk.state x)
+    (SpellsNoFile l.at l.half (length (state_of l).image)))
+    (sym (c.into_disk.ensures ∙ c.stage_first.ensures.disk)) (first_start l log)
+
+pub returns-in-Ok-commit-clause-moments : goal.returns-in-Ok-commit-clause-moments
+returns-in-Ok-commit-clause-moments g c log =
+    let s = c.stage_first.ensures in
+    let staged = c.stage_first.new.log in
+    first_staged c.args.log staged (state_of c.commit.new.self) s.disk s.at s.half
+    (first_committed staged (s.log [] log) (state_of c.commit.new.self) (now_of staged) c.in-Ok.ensures.now
+    (c.commit.ensures.moments [] (s.log [] log)))
+
+pub returns-in-Err-Failed-clause-moments_err : goal.returns-in-Err-Failed-clause-moments_err
+returns-in-Err-Failed-clause-moments_err g c log =
+    let l = c.args.log in
+    let s = c.stage_first.ensures in
+    let staged = c.stage_first.new.log in
+    subst (λ (x : g.row.D.Denot). Keeps (state_of l) (g.D.Disk.state x)
+    (SpellsNoFile l.at l.half (length (state_of l).image))) (sym c.into_disk-in-Err-Failed.ensures)
+    (first_staged l staged (state_of c.commit.new.self) s.disk s.at s.half
+    (first_committed staged (s.log [] log) (state_of c.commit.new.self) (now_of staged) c.in-Ok.ensures.now
+    (c.commit.ensures.moments [] (s.log [] log))))
+
+pub returns-in-Err-commit : goal.returns-in-Err-commit
+returns-in-Err-commit g c =
+    let l = c.args.log in
+    let s = c.stage_first.ensures in
+    let staged = c.stage_first.new.log in
+    let into = c.into_disk-in-Err-commit.ensures in
+    record {
+      now = tt;
+      log = λ log. tt;
+      settled = λ log. tt;
+      moments = λ log. tt;
+      moments_err = λ log.
+          subst (λ (x : g.row.D.Denot). Keeps (state_of l) (g.D.Disk.state x)
+          (SpellsNoFile l.at l.half (length (state_of l).image))) (sym into)
+          (first_staged l staged (state_of c.commit.new.self) s.disk s.at s.half
+          (first_committed staged (s.log [] log) (state_of c.commit.new.self) (now_of staged) c.in-Ok.ensures.now
+          (c.commit.ensures.moments [] (s.log [] log))));
+      later = tt;
+      size = tt;
+      at = tt;
+      half = tt;
+      staged = tt;
+      runs = tt;
+      refused = inr refl;
+      same = tt;
+      same_err = subst (λ (x : g.row.D.Denot). g.D.Disk.is_same l.disk x) (sym into)
+          (subst (λ (x : g.row.D.Denot). g.D.Disk.is_same x c.commit.new.self.disk) s.disk c.commit.ensures.same);
+    }

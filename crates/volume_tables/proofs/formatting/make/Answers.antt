@@ -1,9 +1,12 @@
-use Rattle.std.proofs.Common.{ℕ, subst, sym}
+use Rattle.std.proofs.Common.{ℕ, subst, sym, length}
+use Rattle.meta_log.specs.Log.{state_of}
+use Rattle.vdisk.specs.Steps.{Keeps}
 use Rattle.meta_log.specs.Log.{IsLog}
 use Rattle.meta_log.specs.declared.log.MetaLog.{MetaLog}
 use Rattle.volume_inside.specs.Fresh.{fresh_map}
-use Rattle.volume_tables.specs.Formats.{IsCommitted}
+use Rattle.volume_tables.specs.Formats.{IsCommitted, IsMakeImage}
 use Rattle.volume_tables.proofs.Committed.{formatted_tables, formatted_kept}
+use Rattle.volume_tables.proofs.Formatted.{make_start, make_records}
 use Rattle.volume_tables.proofs.formatting.make.Goals as goal
 
 pub returns-in-Ok-commit_first-clause-tables : goal.returns-in-Ok-commit_first-clause-tables
@@ -19,7 +22,8 @@ returns-in-Ok-commit_first-clause-kept g c told =
     formatted_kept c.assemble.result c.args.clusters c.assemble.ensures.clusters image
     (c.in-Ok-make_log.ensures.superblock told) c.in-Ok-make_log.ensures.size
     (λ q left.
-    let before = subst (λ (l : MetaLog g.row.D.Denot g.D.Disk). (g.D.Disk.state l.disk).may_leave q) c.assemble.ensures.log left in
+    let before = subst (λ (l : MetaLog g.row.D.Denot g.D.Disk). (g.D.Disk.state l.disk).may_leave q)
+    c.assemble.ensures.log left in
     let settled = c.in-Ok-commit_first.ensures.settled (c.in-Ok-make_log.ensures.log told) q before in
     subst (λ (k : ℕ). IsCommitted 4096 k image q) c.in-Ok-make_log.ensures.half
     (subst (λ (k : ℕ). IsCommitted k made.half image q) c.in-Ok-make_log.ensures.at settled))
@@ -28,5 +32,35 @@ pub returns-in-Ok-commit_first-clause-same : goal.returns-in-Ok-commit_first-cla
 returns-in-Ok-commit_first-clause-same g c =
     let made = c.in-Ok-make_log.log in
     let done = c.in-Ok-commit_first.log in
-    let same = g.met.D.Disk.same_next c.args.disk made.disk done.disk c.in-Ok-make_log.ensures.same c.in-Ok-commit_first.ensures.same in
-    subst (λ (l : MetaLog g.row.D.Denot g.D.Disk). g.D.Disk.is_same c.args.disk l.disk) (sym c.assemble.ensures.log) same
+    let same = g.met.D.Disk.same_next c.args.disk made.disk done.disk c.in-Ok-make_log.ensures.same
+    c.in-Ok-commit_first.ensures.same in
+    subst (λ (l : MetaLog g.row.D.Denot g.D.Disk). g.D.Disk.is_same c.args.disk l.disk)
+    (sym c.assemble.ensures.log) same
+
+pub returns-in-Err-clause-moments_err : goal.returns-in-Err-clause-moments_err
+returns-in-Err-clause-moments_err g c told = make_start c.args.clusters (g.D.Disk.state c.args.disk)
+
+pub returns-in-Ok-commit_first-clause-moments : goal.returns-in-Ok-commit_first-clause-moments
+returns-in-Ok-commit_first-clause-moments g c told =
+    let made = c.in-Ok-make_log.log in
+    let m = c.in-Ok-make_log.ensures in
+    let s₀ = g.D.Disk.state c.args.disk in
+    subst (λ (l : MetaLog g.row.D.Denot g.D.Disk). Keeps s₀ (state_of l) (IsMakeImage c.args.clusters s₀))
+    (sym c.assemble.ensures.log)
+    (make_records c.args.clusters s₀ (state_of made) (state_of c.in-Ok-commit_first.log) made.at made.half
+    (length (state_of made).image) m.at m.half m.size (m.moments told)
+    (c.in-Ok-commit_first.ensures.moments (m.log told)))
+
+pub returns-in-Err-commit_first-clause-moments_err : goal.returns-in-Err-commit_first-clause-moments_err
+returns-in-Err-commit_first-clause-moments_err g c told =
+    let made = c.in-Ok-make_log.log in
+    let m = c.in-Ok-make_log.ensures in
+    let s₀ = g.D.Disk.state c.args.disk in
+    make_records c.args.clusters s₀ (state_of made) (g.D.Disk.state c.in-Err-commit_first.fault.0) made.at made.half
+    (length (state_of made).image) m.at m.half m.size (m.moments told)
+    (c.in-Err-commit_first.ensures.moments_err (m.log told))
+
+pub returns-in-Err-commit_first-clause-same_err : goal.returns-in-Err-commit_first-clause-same_err
+returns-in-Err-commit_first-clause-same_err g c =
+    g.met.D.Disk.same_next c.args.disk c.in-Ok-make_log.log.disk c.in-Err-commit_first.fault.0
+    c.in-Ok-make_log.ensures.same c.in-Err-commit_first.ensures.same_err

@@ -6,4 +6,5 @@ returns-in_err-stage_put-3-clause-log g c m log =
 
 pub returns-clause-log : goal.returns-clause-log
 returns-clause-log g c m log =
-    c.stage_put-4.ensures.log m (c.stage_put-3.ensures.log m (c.stage_put-2.ensures.log m (c.stage_put.ensures.log m log)))
+    c.stage_put-4.ensures.log m (c.stage_put-3.ensures.log m
+    (c.stage_put-2.ensures.log m (c.stage_put.ensures.log m log)))

@@ -7,4 +7,5 @@ returns-clause-is c =
     let text = c.extend_from_slice.new.self.items in
     let same : text ≡ c.write_superblock.result = search rules in
     let short : length text ≡ 44 = search rules in
-    cluster_is c.args.clusters _ c.write_superblock.result text c.resize.new.self.items c.write_superblock.ensures.is same (omega (arith, short)) c.in_ok-resize.ensures.items
+    cluster_is c.args.clusters _ c.write_superblock.result text c.resize.new.self.items c.write_superblock.ensures.is
+    same (omega (arith, short)) c.in_ok-resize.ensures.items

@@ -8,11 +8,13 @@ returns-clause-some g c told =
     let image = (g.D.Disk.state c.args.disk.now).image in
     let bytes = c.read.new.out in
     some_then c.read_superblock.result (λ n. IsSuperblock n bytes) (λ n. HasSuperblock n image)
-    (λ n is. superblock_here n bytes image (c.in_ok-read.ensures.bytes told) c.requires is) c.read_superblock.ensures.some
+    (λ n is. superblock_here n bytes image (c.in_ok-read.ensures.bytes told) c.requires is)
+    c.read_superblock.ensures.some
 
 pub returns-clause-none : goal.returns-clause-none
 returns-clause-none g c told =
     let image = (g.D.Disk.state c.args.disk.now).image in
     let bytes = c.read.new.out in
     none_then c.read_superblock.result ((n : ℕ) → IsSuperblock n bytes → ⊥) ((n : ℕ) → HasSuperblock n image → ⊥)
-    (λ never n has. never n (superblock_there n bytes image (c.in_ok-read.ensures.bytes told) has)) c.read_superblock.ensures.none
+    (λ never n has. never n (superblock_there n bytes image (c.in_ok-read.ensures.bytes told) has))
+    c.read_superblock.ensures.none

@@ -1,9 +1,11 @@
 use Rattle.std.proofs.Common.{arith, sym, subst}
 use Rattle.table_rules.specs.Found.{volume_record}
-use Rattle.volume_inside.specs.Rules.{IsVolumeRecord}
+use Rattle.volume_inside.specs.Rules.{IsVolumeRecord, RulesHold}
+use Rattle.volume_inside.specs.Typed.{typed_of}
 use Rattle.volume_tables.specs.Contents.{HasContents}
+use Rattle.volume_tables.specs.Tables.{with_ends}
 use Rattle.volume_tables.specs.declared.ends.JobEnds.{JobEnds}
-use Rattle.volume_tables.proofs.Assembled.{contents_found, held_found, settled_found, lawful_found}
+use Rattle.volume_tables.proofs.Assembled.{contents_found, held_found, lawful_found, rules_found}
 use Rattle.volume_tables.proofs.mounting.assemble.Goals as goal
 
 pub invariant_of-result : goal.invariant_of-result
@@ -21,8 +23,17 @@ invariant_of-result g c =
       size = c.requires.size;
       spaces = c.requires.space.size;
       last_id = lawful.last_id;
-      contents = subst (λ (ends : JobEnds). HasContents m r.next_id r.settings ends) (sym c.ends_of-ends.ensures) (contents_found n m r c.requires.sorted volume c.requires.records);
+      named = c.count_names-names.ensures;
+      contents = subst (λ (ends : JobEnds). HasContents m r.next_id r.settings ends) (sym c.ends_of-ends.ensures)
+          (contents_found n m r c.requires.sorted volume c.requires.records);
       held = held_found n m c.args.found.space volume c.requires.space;
-      settled = settled_found c.ends_of-ends.result r.results c.ends_of-ends.ensures;
       few = λ runs fresh. omega (arith, c.requires.staged);
     }
+
+pub returns-clause-rules : goal.returns-clause-rules
+returns-clause-rules g c =
+    let n = c.args.clusters in
+    let m = c.args.log.map in
+    let r = c.args.found.records in
+    subst (λ (ends : JobEnds). RulesHold n (with_ends ends (typed_of m))) (sym c.ends_of-ends.ensures)
+    (rules_found n m r c.requires.sorted c.requires.volume c.requires.records)

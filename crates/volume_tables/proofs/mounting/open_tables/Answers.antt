@@ -9,4 +9,5 @@ returns-in-Err-read_tables-clause-refused g c =
     let n = c.args.clusters in
     let fault = c.in-Err-read_tables.fault in
     table_refused n c.in-Ok.log.map (g.D.Disk.state c.args.disk) (g.D.Disk.state c.into_disk.result) fault
-    (subst (λ (m : Map). IsRefusal n m fault) c.pairs.ensures c.in-Err-read_tables.ensures.refused) (λ told. c.in-Ok.ensures.spells told)
+    (subst (λ (m : Map). IsRefusal n m fault) c.pairs.ensures c.in-Err-read_tables.ensures.refused)
+    (λ told. c.in-Ok.ensures.spells told)

@@ -10,5 +10,6 @@ returns g c =
     let key = take c.write_key-length.result c.write_key-length.new.out in
     let value = take c.write_value-size.result c.write_value-size.new.out in
     staged_put g.T.Table.codec c.args.key c.args.value c.args.log.now c.stage_put.new.self key value c.stage_put.result
-    k.spelled v.whole v.spelled (c.requires key value k.spelled v.whole) s.full s.table s.in_place s.refused s.now s.staged s.unspent
+    k.spelled v.whole v.spelled (c.requires key value k.spelled v.whole) s.full s.table s.in_place s.refused s.now
+    s.staged s.unspent
     (record { log = s.log; disk = s.disk; place = s.place; running = s.stopped }) c.of_log.result c.of_log.ensures

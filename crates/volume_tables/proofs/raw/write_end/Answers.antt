@@ -10,4 +10,5 @@ returns-in-None-clause-ends g c =
     let codec = g.T.Table.codec in
     let whole : take 1 (slice_set c.args.out.now 0 c.args.end) ≡ (codec.number + 1) ∷ [] =
     one_set c.args.out.now c.args.end c.requires.room ∙ ap (λ (n : ℕ). n ∷ []) (sym c.requires.number) in
-    subst (λ (o : Option g.row.T-Key.Denot). EndsRange codec o (take 1 (slice_set c.args.out.now 0 c.args.end))) (sym c.in-None.is) whole
+    subst (λ (o : Option g.row.T-Key.Denot). EndsRange codec o (take 1 (slice_set c.args.out.now 0 c.args.end)))
+    (sym c.in-None.is) whole

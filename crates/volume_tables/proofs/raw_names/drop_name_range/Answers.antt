@@ -7,8 +7,11 @@ use Rattle.volume_tables.proofs.raw_names.drop_name_range.Goals as goal
 
 pub returns-in-Some : goal.returns-in-Some
 returns-in-Some g c =
-    subst (λ (o : Option (Bor (List ℕ))). IsStagedDrop name_codec c.args.from.now (option_map (λ name. name.now) o) c.args.log.now c.drop_names.new.log) (sym c.in-Some.is) c.drop_names.ensures
+    subst (λ (o : Option (Bor (List ℕ))). IsStagedDrop name_codec c.args.from.now
+    (option_map (λ name. name.now) o) c.args.log.now c.drop_names.new.log) (sym c.in-Some.is) c.drop_names.ensures
 
 pub returns-in-None : goal.returns-in-None
 returns-in-None g c =
-    subst (λ (o : Option (Bor (List ℕ))). IsStagedDrop name_codec c.args.from.now (option_map (λ name. name.now) o) c.args.log.now c.drop_names_from.new.log) (sym c.in-None.is) c.drop_names_from.ensures
+    subst (λ (o : Option (Bor (List ℕ))). IsStagedDrop name_codec c.args.from.now
+    (option_map (λ name. name.now) o) c.args.log.now c.drop_names_from.new.log)
+    (sym c.in-None.is) c.drop_names_from.ensures

@@ -13,7 +13,8 @@ returns-in-Some g c =
     let m = log_now c.args.log.now in
     let b = take c.write_key-length.result c.write_key-length.new.out in
     let found : find bytes_cmp b m ≡ Some c.in-Some.bytes.now = search rules in
-    ap (λ (v : ℕ). Some v) c.read_value.ensures ∙ ap (λ (o : Option (List ℕ)). option_map name_codec.read_value o) (sym found)
+    ap (λ (v : ℕ). Some v) c.read_value.ensures ∙ ap (λ (o : Option (List ℕ)). option_map name_codec.read_value o)
+    (sym found)
     ∙ sym (find_typed name_codec b c.args.name.now c.write_key-length.ensures.spelled m)
 
 pub returns-in-None : goal.returns-in-None

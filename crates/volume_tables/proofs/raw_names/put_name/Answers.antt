@@ -15,5 +15,6 @@ returns g c =
     let key_size = name_key key c.args.name.now k.spelled in
     let value_size = names_table.sized value v.whole in
     staged_put name_codec c.args.name.now c.args.id c.args.log.now c.stage_put.new.self key value c.stage_put.result
-    k.spelled v.whole v.spelled (omega (arith, key_size, value_size, c.requires.room)) s.full s.table s.in_place s.refused s.now s.staged s.unspent
+    k.spelled v.whole v.spelled (omega (arith, key_size, value_size, c.requires.room)) s.full s.table s.in_place
+    s.refused s.now s.staged s.unspent
     (record { log = s.log; disk = s.disk; place = s.place; running = s.stopped }) c.of_log.result c.of_log.ensures

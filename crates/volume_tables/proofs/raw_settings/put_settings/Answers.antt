@@ -10,7 +10,9 @@ returns g c =
     let r = c.requires in
     let value = c.args.bytes.now in
     let size = ap (λ (b : List ℕ). length b) r.spelled ∙ bytes_size c.args.settings.now r.spellable in
-    staged_put settings_codec tt c.args.settings.now c.args.log.now c.stage_put.new.self (9 ∷ []) value c.stage_put.result
-    refl (ap settings_codec.is_value r.spelled ∙ bytes_whole c.args.settings.now r.spellable) (ap settings_codec.read_value r.spelled ∙ bytes_mean c.args.settings.now r.spellable)
+    staged_put settings_codec tt c.args.settings.now c.args.log.now c.stage_put.new.self
+    (9 ∷ []) value c.stage_put.result
+    refl (ap settings_codec.is_value r.spelled ∙ bytes_whole c.args.settings.now r.spellable)
+    (ap settings_codec.read_value r.spelled ∙ bytes_mean c.args.settings.now r.spellable)
     (omega (arith, size, r.room)) s.full s.table s.in_place s.refused s.now s.staged s.unspent
     (record { log = s.log; disk = s.disk; place = s.place; running = s.stopped }) c.of_log.result c.of_log.ensures

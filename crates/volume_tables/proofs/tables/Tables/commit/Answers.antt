@@ -11,19 +11,22 @@ use Rattle.volume_tables.proofs.tables.Tables.commit.Goals as goal
 pub returns-clause-moments : goal.returns-clause-moments
 returns-clause-moments g c stored w is kept =
     let t = c.args.self.now in
-    subst (λ (l : MetaLog g.row.D.Denot g.D.Disk). Keeps (disk_of t) (log_state l) (ShowsEither (area_of t) w (view_now t))) (sym c.release.ensures.log)
+    subst (λ (l : MetaLog g.row.D.Denot g.D.Disk). Keeps (disk_of t) (log_state l)
+    (ShowsEither (area_of t) w (view_now t))) (sym c.release.ensures.log)
     (c.commit_log.ensures.moments stored w is kept)
 
 pub returns-clause-kept : goal.returns-clause-kept
 returns-clause-kept g c stored w is kept =
     let t = c.args.self.now in
-    subst (λ (l : MetaLog g.row.D.Denot g.D.Disk). Kept (area_of t) (log_state l) (view_now t)) (sym c.release.ensures.log)
+    subst (λ (l : MetaLog g.row.D.Denot g.D.Disk). Kept (area_of t) (log_state l) (view_now t))
+    (sym c.release.ensures.log)
     (c.in_ok-commit_log.ensures.kept stored w is kept)
 
 pub returns-clause-tables : goal.returns-clause-tables
 returns-clause-tables g c stored is =
     let r = c.release.ensures in
-    committed c.args.self.now c.commit_log.new.self c.release.new.self c.commit_log.ensures.now c.commit_log.ensures.clusters r.log r.tables r.clusters
+    committed c.args.self.now c.commit_log.new.self c.release.new.self c.commit_log.ensures.now
+    c.commit_log.ensures.clusters r.log r.tables r.clusters
     (c.in_ok-commit_log.ensures.stored stored is)
 
 pub returns-clause-inside : goal.returns-clause-inside

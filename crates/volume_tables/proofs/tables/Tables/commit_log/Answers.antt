@@ -1,46 +1,62 @@
-use Rattle.std.proofs.Common.{sym, ◌∙◌, ap, subst}
-use Rattle.std.specs.Prelude.{Result, OnOk}
+use Rattle.std.proofs.Common.{sym, ◌∙◌, refl}
 use Rattle.std.proofs.lemmas.Result.{on_ok_weaker}
-use Rattle.byte_map.specs.Words.{Map}
-use Rattle.vdisk.specs.Steps.{Keeps}
-use Rattle.plain_volume.specs.declared.call.Fault.{Fault}
-use Rattle.volume_inside.specs.Typed.{Typed, typed_of}
-use Rattle.volume_inside.specs.Inside.{inside_at}
-use Rattle.volume_inside.specs.Shows.{Kept, ShowsEither, view_at}
+use Rattle.volume_inside.specs.Typed.{typed_of}
+use Rattle.volume_inside.specs.Shows.{Kept, view_at}
 use Rattle.volume_tables.specs.Log.{log_now, log_state}
 use Rattle.volume_tables.specs.Tables.{disk_of, area_of, tables_now, with_ends}
-use Rattle.volume_tables.proofs.Staged.{answer_ok, handed_ok}
-use Rattle.volume_tables.proofs.Crashes.{commit_moments, commit_kept, commit_inside}
-use Rattle.volume_tables.proofs.Committing.{now_is, now_volume, worn_back}
+use Rattle.volume_tables.proofs.Staged.{handed_ok}
+use Rattle.volume_tables.proofs.Crashes.{commit_moments, commit_kept, commit_inside, commit_tables, commit_stored}
+use Rattle.volume_tables.proofs.Committing.{now_volume, worn_back, epoch_taken}
 use Rattle.volume_tables.proofs.tables.Tables.commit_log.Goals as goal
 
 pub returns-clause-moments : goal.returns-clause-moments
 returns-clause-moments g c stored w is kept =
     let t = c.args.self.now in
-    subst (λ (q : Typed). Keeps (disk_of t) (log_state c.commit.new.self) (ShowsEither (area_of t) w (view_at q (disk_of t).image))) (sym (now_is t))
-    (commit_moments t stored w (log_state c.commit.new.self) (now_volume t c.requires.rules) is kept (c.commit.ensures.moments is.map is.log))
+    let l = c.stage_ends.new.log in
+    let s = c.stage_ends.ensures in
+    commit_moments t l s.quiet s.tables stored w (log_state c.commit.new.self)
+    (now_volume t.clusters (log_now l) (tables_now t) s.tables s.there.spelled c.requires.rules) is kept
+    (λ m log. c.commit.ensures.moments m log)
 
 pub returns-clause-kept : goal.returns-clause-kept
 returns-clause-kept g c stored w is kept =
     let t = c.args.self.now in
-    let P : Result (Unit {0}) Fault → Type 0 = λ a. OnOk a (Kept (area_of t) (log_state c.commit.new.self) (view_at (tables_now t) (disk_of t).image)) in
-    subst P (sym c.of_log.ensures) (answer_ok _ c.commit.result (on_ok_weaker c.commit.result
-    (λ settled. subst (λ (q : Typed). Kept (area_of t) (log_state c.commit.new.self) (view_at q (disk_of t).image)) (sym (now_is t))
-    (commit_kept t stored w (log_state c.commit.new.self) (now_volume t c.requires.rules) is kept settled))
-    (c.commit.ensures.settled is.map is.log)))
+    let l = c.stage_ends.new.log in
+    let s = c.stage_ends.ensures in
+    handed_ok (Kept (area_of t) (log_state c.commit.new.self) (view_at (tables_now t) (disk_of t).image))
+    c.commit.result c.of_log-answer.result c.of_log-answer.ensures
+    (on_ok_weaker c.commit.result
+    (λ settled. commit_kept t l s.quiet s.tables stored w (log_state c.commit.new.self)
+    (now_volume t.clusters (log_now l) (tables_now t) s.tables s.there.spelled c.requires.rules) is kept settled)
+    (c.commit.ensures.settled is.map (s.quiet.log is.map is.log)))
 
 pub returns-clause-stored : goal.returns-clause-stored
 returns-clause-stored g c stored is =
-    let t = c.args.self.now in
-    handed_ok _ c.commit.result c.of_log.result c.of_log.ensures (on_ok_weaker c.commit.result
-    (λ log. record { map = log_now t.log; log = log; is = sym (now_is t) }) (c.commit.ensures.ok is.map is.log))
-
-pub returns-clause-unspent : goal.returns-clause-unspent
-returns-clause-unspent g c worn = c.commit.ensures.unspent (worn_back c.commit.result (sym c.of_log.ensures ∙ worn))
+    let l = c.stage_ends.new.log in
+    let s = c.stage_ends.ensures in
+    handed_ok _ c.commit.result c.of_log-answer.result c.of_log-answer.ensures (on_ok_weaker c.commit.result
+    (λ log. record { map = log_now l; log = log; is = s.tables })
+    (c.commit.ensures.ok is.map (s.quiet.log is.map is.log)))
 
 pub returns-clause-inside : goal.returns-clause-inside
 returns-clause-inside g c =
     let t = c.args.self.now in
-    let image = (log_state c.commit.new.self).image in
-    ap (λ (m : Map). inside_at (with_ends t.ends (typed_of m)) image) c.commit.ensures.now
-    ∙ ap (λ (q : Typed). inside_at q image) (now_is t) ∙ commit_inside t image c.commit.ensures.outside ∙ ap (λ (q : Typed). inside_at q (disk_of t).image) (sym (now_is t))
+    let l = c.stage_ends.new.log in
+    let s = c.stage_ends.ensures in
+    let new = c.commit.new.self in
+    commit_inside t l s.quiet s.tables (with_ends c.stage_ends.new.ends (typed_of (log_now new))) (log_state new).image
+    (commit_tables t l s.quiet s.tables (log_now new) c.stage_ends.new.ends c.commit.ensures.now s.ends)
+    c.commit.ensures.outside
+
+pub returns-clause-still_stored : goal.returns-clause-still_stored
+returns-clause-still_stored g c stored is worn =
+    let s = c.stage_ends.ensures in
+    commit_stored c.args.self.now c.stage_ends.new.log s.quiet s.tables _
+    (c.commit.ensures.unspent (worn_back c.commit.result (sym c.of_log-answer.ensures ∙ worn))) refl refl
+    stored is
+
+pub returns-clause-epoch : goal.returns-clause-epoch
+returns-clause-epoch g c runs =
+    let s = c.commit.ensures in
+    epoch_taken c.args.self.now c.stage_ends.new.log c.commit.new.self c.stage_ends.ensures.quiet c.commit.result
+    s.refused s.epoch s.unspent (λ f. (s.failed f).1) runs

@@ -17,6 +17,7 @@ use Rattle.volume_tables.proofs.Sizes.{extent_key, end_size}
 use Rattle.volume_tables.proofs.Setting.{drop_contents, drop_checkpoint, drop_now}
 use Rattle.volume_tables.proofs.Leaving.{IsNoFreer}
 use Rattle.volume_tables.proofs.Deferring.{held_used_once, held_dropped, all_no_freer, all_length, drop_leaves}
+use Rattle.volume_tables.proofs.Counts.{drop_named}
 use Rattle.volume_tables.proofs.tables.Tables.drop_extent.Goals as goal
 
 pub defer_range-requires-clause-keyed : goal.defer_range-requires-clause-keyed
@@ -25,8 +26,10 @@ defer_range-requires-clause-keyed g c = extents_ready c.args.self.now.contents
 pub defer_range-requires-clause-used : goal.defer_range-requires-clause-used
 defer_range-requires-clause-used g c =
     let t = c.args.self.now in
-    subst (λ (n : ℕ). AreUsedOnce n t.space (extents_in c.args.from c.args.to (typed_of (log_now t.log)).extents)) (sym c.first_cluster-first.ensures.is)
-    (held_used_once t.clusters t.space (typed_of (log_now t.log)) t.held t.spaces (λ k. is_in_range pair_cmp c.args.from c.args.to k))
+    subst (λ (n : ℕ). AreUsedOnce n t.space (extents_in c.args.from c.args.to (typed_of (log_now t.log)).extents))
+    (sym c.first_cluster-first.ensures.is)
+    (held_used_once t.clusters t.space (typed_of (log_now t.log)) t.held t.spaces
+    (λ k. is_in_range pair_cmp c.args.from c.args.to k))
 
 pub drop_range-requires-clause-room : goal.drop_range-requires-clause-room
 drop_range-requires-clause-room g c b w key ends =
@@ -38,20 +41,27 @@ pub invariant_of-self-clause-spaces : goal.invariant_of-self-clause-spaces
 invariant_of-self-clause-spaces g c =
     let t = c.args.self.now in
     ap (λ (xs : List State). length xs) c.defer_range.ensures
-    ∙ all_length c.first_cluster-first.result (extents_in c.args.from c.args.to (typed_of (log_now t.log)).extents) t.space ∙ t.spaces
+    ∙ all_length c.first_cluster-first.result
+    (extents_in c.args.from c.args.to (typed_of (log_now t.log)).extents) t.space ∙ t.spaces
 
 pub invariant_of-self-clause-contents : goal.invariant_of-self-clause-contents
 invariant_of-self-clause-contents g c =
-    drop_contents extent_codec c.args.self.now c.drop_range.new.log c.args.from c.args.to c.drop_range.ensures (apart 4 1 refl) (apart 4 9 refl) (apart 4 10 refl)
+    drop_contents extent_codec c.args.self.now c.drop_range.new.log c.args.from c.args.to c.drop_range.ensures
+    (apart 4 1 refl) (apart 4 9 refl) (apart 4 10 refl)
 
 pub invariant_of-self-clause-held : goal.invariant_of-self-clause-held
 invariant_of-self-clause-held g c =
     let t = c.args.self.now in
-    let space : c.defer_range.new.space ≡ all_deferred (first_data_cluster t.clusters) (extents_in c.args.from c.args.to (typed_of (log_now t.log)).extents) t.space =
-    c.defer_range.ensures ∙ ap (λ (n : ℕ). all_deferred n (extents_in c.args.from c.args.to (typed_of (log_now t.log)).extents) t.space) c.first_cluster-first.ensures.is in
-    let tables = extents_dropped (log_now t.log) (log_now c.drop_range.new.log) c.args.from c.args.to c.drop_range.ensures.dropped in
+    let space : c.defer_range.new.space ≡ all_deferred (first_data_cluster t.clusters)
+    (extents_in c.args.from c.args.to (typed_of (log_now t.log)).extents) t.space =
+    c.defer_range.ensures ∙ ap (λ (n : ℕ).
+    all_deferred n (extents_in c.args.from c.args.to (typed_of (log_now t.log)).extents) t.space)
+    c.first_cluster-first.ensures.is in
+    let tables = extents_dropped (log_now t.log)
+    (log_now c.drop_range.new.log) c.args.from c.args.to c.drop_range.ensures.dropped in
     subst (λ (p : List State × Typed). AreHeld t.clusters p.0 p.1) (λ i. (sym space i, sym tables i))
-    (held_dropped t.clusters t.space (typed_of (log_now t.log)) t.held t.spaces (λ k. is_in_range pair_cmp c.args.from c.args.to k))
+    (held_dropped t.clusters t.space (typed_of (log_now t.log)) t.held t.spaces
+    (λ k. is_in_range pair_cmp c.args.from c.args.to k))
 
 pub invariant_of-self-clause-few : goal.invariant_of-self-clause-few
 invariant_of-self-clause-few g c running worn =
@@ -63,11 +73,13 @@ invariant_of-self-clause-few g c running worn =
 pub returns-clause-tables : goal.returns-clause-tables
 returns-clause-tables g c =
     let t = c.args.self.now in
-    drop_now extent_codec t c.drop_range.new.log c.args.from c.args.to c.drop_range.ensures (keep_extents (λ k. not (is_in_range pair_cmp c.args.from c.args.to k))) (λ x. refl)
+    drop_now extent_codec t c.drop_range.new.log c.args.from c.args.to c.drop_range.ensures
+    (keep_extents (λ k. not (is_in_range pair_cmp c.args.from c.args.to k))) (λ x. refl)
     (extents_dropped (log_now t.log) (log_now c.drop_range.new.log) c.args.from c.args.to c.drop_range.ensures.dropped)
 
 pub returns-clause-checkpoint : goal.returns-clause-checkpoint
-returns-clause-checkpoint g c = drop_checkpoint extent_codec c.args.self.now c.drop_range.new.log c.args.from c.args.to c.drop_range.ensures
+returns-clause-checkpoint g c =
+    drop_checkpoint extent_codec c.args.self.now c.drop_range.new.log c.args.from c.args.to c.drop_range.ensures
 
 pub returns-clause-staged : goal.returns-clause-staged
 returns-clause-staged g c =
@@ -81,10 +93,17 @@ returns-clause-leaves g c =
     let t = c.args.self.now in
     drop_leaves t _ c.drop_range.ensures.quiet refl
     (subst (λ (xs : List State). IsNoFreer t.space xs) (sym c.defer_range.ensures)
-    (all_no_freer c.first_cluster-first.result (extents_in c.args.from c.args.to (typed_of (log_now t.log)).extents) t.space))
+    (all_no_freer c.first_cluster-first.result
+    (extents_in c.args.from c.args.to (typed_of (log_now t.log)).extents) t.space))
     refl (g.met.D.Disk.same_self t.log.disk)
 
 pub returns-clause-states : goal.returns-clause-states
 returns-clause-states g c =
     let t = c.args.self.now in
-    c.defer_range.ensures ∙ ap (λ (n : ℕ). all_deferred n (extents_in c.args.from c.args.to (typed_of (log_now t.log)).extents) t.space) c.first_cluster-first.ensures.is
+    c.defer_range.ensures ∙ ap (λ (n : ℕ).
+    all_deferred n (extents_in c.args.from c.args.to (typed_of (log_now t.log)).extents) t.space)
+    c.first_cluster-first.ensures.is
+
+pub invariant_of-self-clause-named : goal.invariant_of-self-clause-named
+invariant_of-self-clause-named g c = drop_named c.args.self.now c.drop_range.new.log extent_codec
+    (apart 4 2 refl) c.args.from c.args.to c.drop_range.ensures

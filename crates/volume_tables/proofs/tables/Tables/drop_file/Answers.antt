@@ -12,6 +12,7 @@ use Rattle.volume_tables.proofs.Puts.{files_dropped}
 use Rattle.volume_tables.proofs.Sizes.{file_key, end_size}
 use Rattle.volume_tables.proofs.Held.{held_same}
 use Rattle.volume_tables.proofs.Setting.{quiet_leaves, drop_contents, drop_checkpoint, drop_now}
+use Rattle.volume_tables.proofs.Counts.{drop_named}
 use Rattle.volume_tables.proofs.tables.Tables.drop_file.Goals as goal
 
 pub drop_range-requires-clause-room : goal.drop_range-requires-clause-room
@@ -22,14 +23,17 @@ drop_range-requires-clause-room g c b w key ends =
 
 pub invariant_of-self-clause-contents : goal.invariant_of-self-clause-contents
 invariant_of-self-clause-contents g c =
-    drop_contents file_codec c.args.self.now c.drop_range.new.log c.args.from c.args.to c.drop_range.ensures (apart 3 1 refl) (apart 3 9 refl) (apart 3 10 refl)
+    drop_contents file_codec c.args.self.now c.drop_range.new.log c.args.from c.args.to c.drop_range.ensures
+    (apart 3 1 refl) (apart 3 9 refl) (apart 3 10 refl)
 
 pub invariant_of-self-clause-held : goal.invariant_of-self-clause-held
 invariant_of-self-clause-held g c =
     let t = c.args.self.now in
     subst (λ (x : Typed). AreHeld t.clusters t.space x)
-    (sym (files_dropped (log_now t.log) (log_now c.drop_range.new.log) c.args.from c.args.to c.drop_range.ensures.dropped))
-    (held_same t.clusters t.space (typed_of (log_now t.log)) t.held (keep_files (λ k. not (is_in_range nat_cmp c.args.from c.args.to k)) (typed_of (log_now t.log))) refl)
+    (sym (files_dropped (log_now t.log)
+    (log_now c.drop_range.new.log) c.args.from c.args.to c.drop_range.ensures.dropped))
+    (held_same t.clusters t.space (typed_of (log_now t.log)) t.held
+    (keep_files (λ k. not (is_in_range nat_cmp c.args.from c.args.to k)) (typed_of (log_now t.log))) refl)
 
 pub invariant_of-self-clause-few : goal.invariant_of-self-clause-few
 invariant_of-self-clause-few g c running worn =
@@ -41,11 +45,13 @@ invariant_of-self-clause-few g c running worn =
 pub returns-clause-tables : goal.returns-clause-tables
 returns-clause-tables g c =
     let t = c.args.self.now in
-    drop_now file_codec t c.drop_range.new.log c.args.from c.args.to c.drop_range.ensures (keep_files (λ k. not (is_in_range nat_cmp c.args.from c.args.to k))) (λ x. refl)
+    drop_now file_codec t c.drop_range.new.log c.args.from c.args.to c.drop_range.ensures
+    (keep_files (λ k. not (is_in_range nat_cmp c.args.from c.args.to k))) (λ x. refl)
     (files_dropped (log_now t.log) (log_now c.drop_range.new.log) c.args.from c.args.to c.drop_range.ensures.dropped)
 
 pub returns-clause-checkpoint : goal.returns-clause-checkpoint
-returns-clause-checkpoint g c = drop_checkpoint file_codec c.args.self.now c.drop_range.new.log c.args.from c.args.to c.drop_range.ensures
+returns-clause-checkpoint g c =
+    drop_checkpoint file_codec c.args.self.now c.drop_range.new.log c.args.from c.args.to c.drop_range.ensures
 
 pub returns-clause-staged : goal.returns-clause-staged
 returns-clause-staged g c =
@@ -56,4 +62,9 @@ returns-clause-staged g c =
 
 pub returns-clause-leaves : goal.returns-clause-leaves
 returns-clause-leaves g c =
-    quiet_leaves c.args.self.now _ c.drop_range.ensures.quiet refl refl refl (g.met.D.Disk.same_self c.args.self.now.log.disk)
+    quiet_leaves c.args.self.now _ c.drop_range.ensures.quiet refl refl refl
+    (g.met.D.Disk.same_self c.args.self.now.log.disk)
+
+pub invariant_of-self-clause-named : goal.invariant_of-self-clause-named
+invariant_of-self-clause-named g c = drop_named c.args.self.now c.drop_range.new.log file_codec
+    (apart 3 2 refl) c.args.from c.args.to c.drop_range.ensures

@@ -18,11 +18,14 @@ returns-in-Ok-clause-tables g c told =
     let n = c.in-Ok.clusters in
     let first = c.in-Ok.ensures.read in
     ok_four c.open_tables.result
-    (λ (t : Tables g.row.D.Denot g.D.Disk). IsMountedFrom n s₁ t) (λ (t : Tables g.row.D.Denot g.D.Disk). t.clusters ≡ n)
-    (λ (t : Tables g.row.D.Denot g.D.Disk). IsOnlyRead s₁ (disk_of t)) (λ (t : Tables g.row.D.Denot g.D.Disk). IsFilled n (clusters_of (tables_now t)) (states_of t))
+    (λ (t : Tables g.row.D.Denot g.D.Disk). IsMountedFrom n s₁ t)
+    (λ (t : Tables g.row.D.Denot g.D.Disk). t.clusters ≡ n)
+    (λ (t : Tables g.row.D.Denot g.D.Disk). IsOnlyRead s₁ (disk_of t))
+    (λ (t : Tables g.row.D.Denot g.D.Disk). IsFilled n (clusters_of (tables_now t)) (states_of t))
     (λ (t : Tables g.row.D.Denot g.D.Disk). IsTables t (tables_now t))
     (λ t from is second filled. mounted_tables t n s₀ s₁ first second from is filled)
-    (c.open_tables.ensures.spells (first.keeps.tells ∙ told)) c.open_tables.ensures.clusters c.open_tables.ensures.read c.open_tables.ensures.space
+    (c.open_tables.ensures.spells (first.keeps.tells ∙ told)) c.open_tables.ensures.clusters c.open_tables.ensures.read
+    c.open_tables.ensures.space
 
 pub returns-in-Ok-clause-kept : goal.returns-in-Ok-clause-kept
 returns-in-Ok-clause-kept g c told =
@@ -31,11 +34,15 @@ returns-in-Ok-clause-kept g c told =
     let n = c.in-Ok.clusters in
     let first = c.in-Ok.ensures.read in
     ok_four c.open_tables.result
-    (λ (t : Tables g.row.D.Denot g.D.Disk). IsMountedFrom n s₁ t) (λ (t : Tables g.row.D.Denot g.D.Disk). t.clusters ≡ n)
-    (λ (t : Tables g.row.D.Denot g.D.Disk). IsOnlyRead s₁ (disk_of t)) (λ (t : Tables g.row.D.Denot g.D.Disk). IsFilled n (clusters_of (tables_now t)) (states_of t))
+    (λ (t : Tables g.row.D.Denot g.D.Disk). IsMountedFrom n s₁ t)
+    (λ (t : Tables g.row.D.Denot g.D.Disk). t.clusters ≡ n)
+    (λ (t : Tables g.row.D.Denot g.D.Disk). IsOnlyRead s₁ (disk_of t))
+    (λ (t : Tables g.row.D.Denot g.D.Disk). IsFilled n (clusters_of (tables_now t)) (states_of t))
     (λ (t : Tables g.row.D.Denot g.D.Disk). Kept (area_of t) (disk_of t) (view_now t))
-    (λ t from is second filled. mounted_kept t n s₀ s₁ first second from is (c.in-Ok.ensures.image told) (c.in-Ok.ensures.settled told))
-    (c.open_tables.ensures.spells (first.keeps.tells ∙ told)) c.open_tables.ensures.clusters c.open_tables.ensures.read c.open_tables.ensures.space
+    (λ t from is second filled. mounted_kept t n s₀ s₁ first second from is (c.in-Ok.ensures.image told)
+    (c.in-Ok.ensures.settled told))
+    (c.open_tables.ensures.spells (first.keeps.tells ∙ told)) c.open_tables.ensures.clusters c.open_tables.ensures.read
+    c.open_tables.ensures.space
 
 pub returns-in-Ok-clause-refused : goal.returns-in-Ok-clause-refused
 returns-in-Ok-clause-refused g c =
@@ -43,5 +50,7 @@ returns-in-Ok-clause-refused g c =
     let s₁ = g.D.Disk.state c.read_front.new.disk in
     let n = c.in-Ok.clusters in
     err_then c.open_tables.result
-    (λ (e : g.row.D.Denot × MountFault). IsInnerFault n s₁ (g.D.Disk.state e.0) e.1) (λ (e : g.row.D.Denot × MountFault). IsMountFault s₀ (g.D.Disk.state e.0) e.1)
-    (λ e why. inner_refused n s₀ s₁ (g.D.Disk.state e.0) c.in-Ok.ensures.read e.1 (λ told. c.in-Ok.ensures.image told) why) c.open_tables.ensures.refused
+    (λ (e : g.row.D.Denot × MountFault). IsInnerFault n s₁ (g.D.Disk.state e.0) e.1)
+    (λ (e : g.row.D.Denot × MountFault). IsMountFault s₀ (g.D.Disk.state e.0) e.1)
+    (λ e why. inner_refused n s₀ s₁ (g.D.Disk.state e.0) c.in-Ok.ensures.read e.1
+    (λ told. c.in-Ok.ensures.image told) why) c.open_tables.ensures.refused

@@ -10,10 +10,12 @@ pub returns-in-Some : goal.returns-in-Some
 returns-in-Some g c =
     let t = c.args.self.now in
     c.next_name.ensures (names_ready t.contents)
-    ∙ ap (λ (o : Option (Bor (List ℕ))). next_after bytes_cmp (option_map (λ name. name.now) o) (tables_now t).names) (sym c.in-Some.is)
+    ∙ ap (λ (o : Option (Bor (List ℕ))). next_after bytes_cmp (option_map (λ name. name.now) o) (tables_now t).names)
+    (sym c.in-Some.is)
 
 pub returns-in-None : goal.returns-in-None
 returns-in-None g c =
     let t = c.args.self.now in
     c.first_name.ensures (names_ready t.contents)
-    ∙ ap (λ (o : Option (Bor (List ℕ))). next_after bytes_cmp (option_map (λ name. name.now) o) (tables_now t).names) (sym c.in-None.is)
+    ∙ ap (λ (o : Option (Bor (List ℕ))). next_after bytes_cmp (option_map (λ name. name.now) o) (tables_now t).names)
+    (sym c.in-None.is)

@@ -15,10 +15,14 @@ pub returns-clause-bytes : goal.returns-clause-bytes
 returns-clause-bytes g c stored is =
     let t = c.args.self.now in
     let out = c.read_data.new.out in
-    let read : OnOk c.read_data.result (out ≡ part c.args.from (length c.args.out.now) (cluster_bytes c.args.cluster (disk_of t).image)) = on_ok_weaker c.read_data.result
-    (λ bytes. bytes ∙ sym (part_part (4096 * c.args.cluster) 4096 c.args.from (length c.args.out.now) (disk_of t).image (omega (arith, c.requires.in_cluster))))
+    let read : OnOk c.read_data.result (out ≡ part c.args.from (length c.args.out.now)
+    (cluster_bytes c.args.cluster (disk_of t).image)) = on_ok_weaker c.read_data.result
+    (λ bytes. bytes ∙ sym (part_part (4096 * c.args.cluster) 4096 c.args.from (length c.args.out.now) (disk_of t).image
+    (omega (arith, c.requires.in_cluster))))
     (c.read_data.ensures.bytes is.log.stands.told) in
-    subst (λ (a : Result (Unit {0}) Fault). OnOk a (out ≡ part c.args.from (length c.args.out.now) (cluster_bytes c.args.cluster (disk_of t).image))) (sym c.of_log.ensures)
+    subst (λ (a : Result (Unit {0}) Fault). OnOk a
+    (out ≡ part c.args.from (length c.args.out.now) (cluster_bytes c.args.cluster (disk_of t).image)))
+    (sym c.of_log.ensures)
     (answer_ok _ c.read_data.result read)
 
 pub returns-clause-leaves : goal.returns-clause-leaves
@@ -27,8 +31,16 @@ returns-clause-leaves g c =
     let s = c.read_data.ensures in
     record {
       clusters = refl;
-      tables = λ stored is. record { map = is.map; log = s.log is.map is.log; is = is.is; stored_apart = is.stored_apart; free = is.free };
-      moments = λ stored w is kept. keeps_read (disk_of t) (log_state c.read_data.new.self) (Shows (area_of t) w) s.untouched kept;
+      tables = λ stored is. record {
+        map = is.map;
+        log = s.log is.map is.log;
+        is = is.is;
+        stored_apart =
+            is.stored_apart;
+        free = is.free;
+      };
+      moments = λ stored w is kept. keeps_read (disk_of t) (log_state c.read_data.new.self)
+          (Shows (area_of t) w) s.untouched kept;
       same = s.same;
       later = s.later;
       place = s.place.next;

@@ -16,11 +16,15 @@ returns-clause-written g c stored is =
     let t = c.args.self.now in
     let s = log_state c.write_data.new.self in
     let whole : length c.args.bytes.now ≡ 4096 = search rules in
-    let fits : 4096 * c.args.cluster + length c.args.bytes.now ≤ length (disk_of t).image = omega (arith, t.size, c.requires.in_data.within, whole) in
-    let written : OnOk c.write_data.result (cluster_bytes c.args.cluster s.image ≡ c.args.bytes.now) = on_ok_weaker c.write_data.result
-    (λ holds. ap (λ (n : ℕ). part (4096 * c.args.cluster) n s.image) (sym whole) ∙ part_written (4096 * c.args.cluster) (disk_of t).image c.args.bytes.now s.image fits holds)
+    let fits : 4096 * c.args.cluster + length c.args.bytes.now ≤ length (disk_of t).image = omega
+    (arith, t.size, c.requires.in_data.within, whole) in
+    let written : OnOk c.write_data.result (cluster_bytes c.args.cluster s.image ≡ c.args.bytes.now) =
+    on_ok_weaker c.write_data.result
+    (λ holds. ap (λ (n : ℕ). part (4096 * c.args.cluster) n s.image) (sym whole)
+    ∙ part_written (4096 * c.args.cluster) (disk_of t).image c.args.bytes.now s.image fits holds)
     (c.write_data.ensures.written is.log.stands.told) in
-    subst (λ (a : Result (Unit {0}) Fault). OnOk a (cluster_bytes c.args.cluster s.image ≡ c.args.bytes.now)) (sym c.of_log.ensures)
+    subst (λ (a : Result (Unit {0}) Fault). OnOk a (cluster_bytes c.args.cluster s.image ≡ c.args.bytes.now))
+    (sym c.of_log.ensures)
     (answer_ok _ c.write_data.result written)
 
 pub returns-clause-tables : goal.returns-clause-tables
@@ -37,4 +41,5 @@ returns-clause-moments g c stored w is out kept =
     let t = c.args.self.now in
     let whole : length c.args.bytes.now ≡ 4096 = search rules in
     write_keeps t stored w (log_state c.write_data.new.self) c.args.cluster c.requires.in_data.from_first
-    (subst (λ (n : ℕ). TornWithin (4096 * c.args.cluster) n (disk_of t) (log_state c.write_data.new.self)) whole c.write_data.ensures.torn) is out kept
+    (subst (λ (n : ℕ). TornWithin (4096 * c.args.cluster) n (disk_of t) (log_state c.write_data.new.self)) whole
+    c.write_data.ensures.torn) is out kept

@@ -1,0 +1,18 @@
+-- What a cluster that is written leaves.
+use Rattle.std.specs.Prelude.{◌≡◌, ◌+◌, ℕ, List}
+use Rattle.cluster_space.specs.declared.state.State.{State}
+use Rattle.cluster_space.specs.declared.state.State.TheVariants.{Free}
+use Rattle.cluster_space.specs.States.{IsIn}
+use Rattle.volume_inside.specs.Layout.{first_data_cluster}
+use Rattle.volume_inside.specs.Typed.{Typed}
+use Rattle.volume_inside.specs.Named.{clusters_of}
+use Rattle.volume_inside.specs.Lists.{IsOut}
+use Rattle.volume_tables.specs.Clusters.{HasState, used_at}
+
+-- one cluster that was free is used
+abbrev pub IsOneUsed : ℕ → List State → List State → Type 0
+IsOneUsed n old new = (c : ℕ) × HasState n old Free c × (new ≡ used_at n c old)
+
+-- tables name no cluster that is free
+abbrev pub NamesNoFree : ℕ → List State → Typed → Type 0
+NamesNoFree n states t = (k : ℕ) → IsIn states k Free → IsOut (first_data_cluster n + k) (clusters_of t)

@@ -1,0 +1,50 @@
+//! Laws of the tables, each the contract of an empty function.
+
+ghost use Rattle.std.specs.Prelude.{◌≡◌, ◌≤◌, ℕ, T, length};
+ghost use Rattle.std.specs.Ordering.{nat_cmp};
+ghost use Rattle.std.specs.FinMap.Entries.{is_sorted};
+ghost use Rattle.byte_map.specs.Words.{bytes_cmp};
+ghost use Rattle.table_records.specs.Keys.{pair_cmp};
+ghost use Rattle.table_records.specs.declared.jobs.JobKind.{JobKind};
+ghost use Rattle.table_records.specs.declared.records.ResultRecord.{ResultRecord};
+ghost use Rattle.table_records.specs.declared.settings.Settings.{Settings};
+ghost use Rattle.volume_inside.specs.Changes.{with_result, with_settings};
+ghost use Rattle.volume_inside.specs.Rules.{RulesHold, AreSettings};
+ghost use Rattle.volume_inside.specs.Typed.{Typed};
+ghost use Rattle.volume_tables.specs.Sizes.{tables_bytes};
+ghost use Rattle.volume_tables.specs.Tables.{tables_now, checkpoint_of};
+
+use crate::tables::Tables;
+use vdisk::Disk;
+
+/// Names, ids of files and blocks rise in the tables now.
+pub fn tables_are_in_order<D: Disk>(tables: &Tables<D>)
+    ensures names { T (is_sorted bytes_cmp (tables_now tables.now).names) }
+    ensures files { T (is_sorted nat_cmp (tables_now tables.now).files) }
+    ensures extents { T (is_sorted pair_cmp (tables_now tables.now).extents) }
+{
+    let _clusters = tables.clusters;
+}
+
+/// What a checkpoint of the tables now is as long as: each entry tells the bytes of its record. The records that are
+/// always there are one of the volume, one of the settings and one of each kind of job.
+pub fn tables_tell_their_checkpoint<D: Disk>(tables: &Tables<D>)
+    ensures length { checkpoint_of tables.now ≡ tables_bytes (tables_now tables.now) }
+    ensures volume { length (tables_now tables.now).volume ≡ 1 }
+    ensures settings { length (tables_now tables.now).settings ≡ 1 }
+    ensures results { length (tables_now tables.now).results ≡ 4 }
+{
+    let _clusters = tables.clusters;
+}
+
+/// The end of a job with a known number keeps the rules.
+pub fn results_of_known_numbers_keep_the_rules()
+    ensures { (n : ℕ) (t : Typed) (kind : JobKind) (end : ResultRecord) → RulesHold n t →
+        end.result ≤ 6 → RulesHold n (with_result kind end t) }
+{}
+
+/// Settings in their ranges keep the rules.
+pub fn settings_in_their_ranges_keep_the_rules()
+    ensures { (n : ℕ) (t : Typed) (settings : Settings) → RulesHold n t → AreSettings settings →
+        RulesHold n (with_settings settings t) }
+{}

@@ -1,0 +1,127 @@
+//! How the last jobs ended is set, and staged for a commit.
+
+ghost use Rattle.std.specs.Prelude.{◌≡◌, ◌≤◌, ◌+◌, ◌*◌, true, IsSome};
+ghost use Rattle.std.specs.FinMap.Entries.{find, is_sorted};
+ghost use Rattle.byte_map.specs.Words.{bytes_cmp};
+ghost use Rattle.meta_log.specs.Log.{checkpoint_length};
+ghost use Rattle.table_records.specs.Codecs.{typed};
+ghost use Rattle.table_records.specs.Keys.{kind_cmp};
+ghost use Rattle.table_records.specs.Tables.{result_codec};
+ghost use Rattle.volume_inside.specs.Changes.{with_result};
+ghost use Rattle.volume_inside.specs.Typed.{typed_of};
+ghost use Rattle.volume_tables.specs.Contents.{HasEnds};
+ghost use Rattle.volume_tables.specs.Ends.{end_of, with_end, with_staged, all_staged, unstaged, unstaged_in};
+ghost use Rattle.volume_tables.specs.Log.{log_now, log_staged};
+ghost use Rattle.volume_tables.specs.Spelled.{are_well_formed};
+ghost use Rattle.volume_tables.specs.Staging.{IsQuiet};
+ghost use Rattle.volume_tables.specs.Tables.{with_ends};
+
+use crate::ends::{JobEnd, JobEnds};
+use crate::raw;
+use crate::tables::Tables;
+use meta_log::MetaLog;
+use table_records::{JobKind, ResultRecord, Results};
+use vdisk::Disk;
+
+impl JobEnds {
+    fn of(&self, kind: JobKind) -> JobEnd
+        ensures { result ≡ end_of kind self.now }
+    {
+        match kind {
+            JobKind::Optimization => self.optimization,
+            JobKind::GarbageCollection => self.garbage_collection,
+            JobKind::Scrubbing => self.scrubbing,
+            JobKind::Unoptimization => self.unoptimization,
+        }
+    }
+
+    fn set(&mut self, kind: JobKind, end: JobEnd)
+        ensures { self.new ≡ with_end kind end self.old }
+    {
+        match kind {
+            JobKind::Optimization => self.optimization = end,
+            JobKind::GarbageCollection => self.garbage_collection = end,
+            JobKind::Scrubbing => self.scrubbing = end,
+            JobKind::Unoptimization => self.unoptimization = end,
+        }
+    }
+}
+
+/// Puts the record of a kind of job in its place.
+fn put_end<D: Disk>(log: &mut MetaLog<D>, kind: JobKind, end: ResultRecord)
+    requires sorted { is_sorted bytes_cmp (log_now log.old) ≡ true }
+    requires spelled { are_well_formed (log_now log.old) ≡ true }
+    requires there { IsSome (find kind_cmp kind (typed result_codec (log_now log.old))) }
+    requires room { log_staged log.old + 16 ≤ 65536 }
+    ensures sorted { is_sorted bytes_cmp (log_now log.new) ≡ true }
+    ensures spelled { are_well_formed (log_now log.new) ≡ true }
+    ensures tables { typed_of (log_now log.new) ≡ with_result kind end (typed_of (log_now log.old)) }
+    ensures staged { log_staged log.new ≡ log_staged log.old + 16 }
+    ensures checkpoint { checkpoint_length (log_now log.new) ≡ checkpoint_length (log_now log.old) }
+    ensures quiet { IsQuiet log.old log.new }
+{
+    raw::put::<D, Results>(log, kind, end).unwrap();
+}
+
+/// Stages how the last job of a kind ended, where that is not staged.
+fn stage_end<D: Disk>(log: &mut MetaLog<D>, ends: &mut JobEnds, kind: JobKind)
+    requires there { HasEnds (log_now log.old) ends.old }
+    requires room { log_staged log.old + 16 ≤ 65536 }
+    ensures there { HasEnds (log_now log.new) (with_staged kind ends.old) }
+    ensures ends { ends.new ≡ with_staged kind ends.old }
+    ensures tables { let end = end_of kind ends.old in
+        typed_of (log_now log.new) ≡ with_result kind end.last (typed_of (log_now log.old)) }
+    ensures staged { log_staged log.new ≡ log_staged log.old + 16 * unstaged (end_of kind ends.old) }
+    ensures checkpoint { checkpoint_length (log_now log.new) ≡ checkpoint_length (log_now log.old) }
+    ensures quiet { IsQuiet log.old log.new }
+{
+    let end = ends.of(kind);
+    if end.last == end.staged {
+        return;
+    }
+    put_end(log, kind, end.last);
+    ends.set(
+        kind,
+        JobEnd {
+            last: end.last,
+            staged: end.last,
+        },
+    );
+}
+
+/// Stages how the last jobs ended, those that are not staged.
+pub(crate) fn stage_ends<D: Disk>(log: &mut MetaLog<D>, ends: &mut JobEnds)
+    requires there { HasEnds (log_now log.old) ends.old }
+    requires room { log_staged log.old ≤ 65472 }
+    ensures there { HasEnds (log_now log.new) (all_staged ends.old) }
+    ensures ends { ends.new ≡ all_staged ends.old }
+    ensures tables { typed_of (log_now log.new) ≡ with_ends ends.old (typed_of (log_now log.old)) }
+    ensures staged { log_staged log.new ≡ log_staged log.old + 16 * unstaged_in ends.old }
+    ensures checkpoint { checkpoint_length (log_now log.new) ≡ checkpoint_length (log_now log.old) }
+    ensures quiet { IsQuiet log.old log.new }
+{
+    stage_end(log, ends, JobKind::Optimization);
+    stage_end(log, ends, JobKind::GarbageCollection);
+    stage_end(log, ends, JobKind::Scrubbing);
+    stage_end(log, ends, JobKind::Unoptimization);
+}
+
+impl<D: Disk> Tables<D> {
+    ghost use Rattle.volume_tables.specs.Tables.{tables_now, states_of, staged_of, checkpoint_of, disk_of, stopped, Leaves};
+
+    /// Sets how the last job of a kind ended. The next commit makes it durable; until then it is lost with these
+    /// tables. It takes no memory, and no room for records.
+    pub fn set_result(&mut self, kind: JobKind, end: ResultRecord)
+        ensures now { tables_now self.new ≡ with_result kind end (tables_now self.old) }
+        ensures log { self.new.log ≡ self.old.log }
+        ensures leaves { Leaves self.old self.new }
+        ensures states { states_of self.new ≡ states_of self.old }
+        ensures staged { staged_of self.new ≡ staged_of self.old }
+        ensures checkpoint { checkpoint_of self.new ≡ checkpoint_of self.old }
+        ensures image { (disk_of self.new).image ≡ (disk_of self.old).image }
+        ensures running { stopped self.new ≡ stopped self.old }
+    {
+        let staged = self.ends.of(kind).staged;
+        self.ends.set(kind, JobEnd { last: end, staged });
+    }
+}
