@@ -2,7 +2,7 @@
 use Rattle.std.specs.Prelude.{◌≡◌, ◌==◌, ◌-◌, ◌^◌, ℕ, Bool, true, cond, nat_lt, List, [], ◌∷◌, length, Option, Some, None, Result, Ok, Err, codes}
 use Rattle.std.specs.List.{list_any}
 use Rattle.std.specs.Str.{bytes_eq, str_eq_ignore_ascii_case}
-use Rattle.cmdlet_line.specs.Words.{behind_spaces, words_of, number_in}
+use Rattle.cmdlet_line.specs.Words.{behind_spaces, has_bad_quote, words_of, number_in}
 use Rattle.cmdlet_line.specs.declared.limits.TheConstants.{MOST_LINE, MOST_COUNT}
 use Rattle.cmdlet_line.specs.declared.lines.Line.{Line}
 use Rattle.cmdlet_line.specs.declared.lines.Line.TheVariants as lines
@@ -15,6 +15,15 @@ pub data Ask : Type 0 where
   Create : List ℕ → Ask
   Write : List ℕ → ℕ → ℕ → Ask
   Read : List ℕ → ℕ → ℕ → Ask
+  Fill : List ℕ → ℕ → ℕ → ℕ → Ask
+  Length : List ℕ → ℕ → Ask
+  Rename : List ℕ → List ℕ → Ask
+  Delete : List ℕ → Ask
+  Digest : List ℕ → Ask
+  Stat : List ℕ → Ask
+  Listing : Ask
+  Flush : Ask
+  Exit : Ask
 
 -- why a line is refused; a List ℕ is the word at fault, or the name of the parameter
 pub data Refusal : Type 0 where
@@ -118,9 +127,24 @@ at_parameter = record { title = codes "At"; kind = Number 0 (2 ^ 64 - 1) }
 abbrev pub count_parameter : Parameter
 count_parameter = record { title = codes "Count"; kind = Number 0 MOST_COUNT }
 
+abbrev pub byte_parameter : Parameter
+byte_parameter = record { title = codes "Byte"; kind = Number 0 255 }
+
+abbrev pub length_parameter : Parameter
+length_parameter = record { title = codes "Length"; kind = Number 0 (2 ^ 64 - 1) }
+
+abbrev pub from_parameter : Parameter
+from_parameter = record { title = codes "From"; kind = Text }
+
+abbrev pub to_parameter : Parameter
+to_parameter = record { title = codes "To"; kind = Text }
+
 -- the parameters of `write` and `read`
 abbrev pub range_parameters : List Parameter
 range_parameters = name_parameter ∷ at_parameter ∷ count_parameter ∷ []
+
+abbrev pub fill_parameters : List Parameter
+fill_parameters = name_parameter ∷ at_parameter ∷ count_parameter ∷ byte_parameter ∷ []
 
 abbrev pub built : List ℕ → (ps : List Parameter) → Makes ps → Row
 built word ps makes = record { word = word; spelling = Exact; form = InOrder ps makes }
@@ -157,23 +181,27 @@ volume_cmdlets =
 
 unfoldable pub volume_commands : List Row
 volume_commands =
-    later (codes "stat")
-    ∷ later (codes "list")
-    ∷ later (codes "flush")
+    built (codes "stat") (name_parameter ∷ []) Stat
+    ∷ built (codes "list") [] Listing
+    ∷ built (codes "flush") [] Flush
+    ∷ built (codes "exit") [] Exit
     ∷ later (codes "turn")
-    ∷ later (codes "load")
-    ∷ later (codes "exit") ∷ volume_cmdlets
+    ∷ later (codes "load") ∷ volume_cmdlets
 
 unfoldable pub commands : List Row
 commands =
     built (codes "create") (name_parameter ∷ []) Create
     ∷ built (codes "write") range_parameters Write
     ∷ built (codes "read") range_parameters Read
-    ∷ later (codes "fill")
-    ∷ later (codes "length")
-    ∷ later (codes "rename")
-    ∷ later (codes "delete")
-    ∷ later (codes "digest") ∷ volume_commands
+    ∷ built (codes "fill") fill_parameters Fill
+    ∷ built (codes "length") (name_parameter ∷ length_parameter ∷ []) Length
+    ∷ built (codes "rename") (from_parameter ∷ to_parameter ∷ []) Rename
+    ∷ built (codes "delete") (name_parameter ∷ []) Delete
+    ∷ built (codes "digest") (name_parameter ∷ []) Digest ∷ volume_commands
+
+-- is the word a command, built or not?
+abbrev pub is_command : List ℕ → Bool
+is_command word = list_any (λ row. spells row.spelling row.word word) commands
 
 -- The line.
 
@@ -182,9 +210,9 @@ abbrev pub is_silent : List ℕ → Bool
 is_silent [] = true
 is_silent (b ∷ bytes) = b == 35
 
--- the words of a line, where no double quote stands in it
+-- the words of a line, where each double quote stands as it may
 abbrev pub split : List ℕ → Result (List (List ℕ)) Refusal
-split line = cond (list_any (λ b. b == 34) line) (Err BadQuote) (Ok (words_of line))
+split line = cond (has_bad_quote line) (Err BadQuote) (Ok (words_of line))
 
 abbrev pub asked_by : List (List ℕ) → Result Ask Refusal
 asked_by [] = Ok Silent
@@ -203,6 +231,15 @@ ask_of lines.Silent = Silent
 ask_of (lines.Create name) = Create name.now
 ask_of (lines.Write name at count) = Write name.now at count
 ask_of (lines.Read name at count) = Read name.now at count
+ask_of (lines.Fill name at count byte) = Fill name.now at count byte
+ask_of (lines.Length name length) = Length name.now length
+ask_of (lines.Rename source target) = Rename source.now target.now
+ask_of (lines.Delete name) = Delete name.now
+ask_of (lines.Digest name) = Digest name.now
+ask_of (lines.Stat name) = Stat name.now
+ask_of lines.List = Listing
+ask_of lines.Flush = Flush
+ask_of lines.Exit = Exit
 
 abbrev pub refusal_of : LineFault → Refusal
 refusal_of faults.LineTooLong = LineTooLong

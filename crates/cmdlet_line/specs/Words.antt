@@ -1,9 +1,11 @@
 -- Words and numbers of a line.
 use Rattle.std.specs.Prelude.{◌&&◌, ◌==◌, ◌^◌, ℕ, Bool, true, false, cond, not, nat_le, nat_lt, List, [], ◌∷◌, length, drop, Option, Some, None}
-use Rattle.std.specs.List.{filter, list_all, position_or_len, slice_split}
+use Rattle.std.specs.List.{list_all, onto_first, position_or_len}
 use Rattle.std.specs.Char.{is_ascii_digit}
 use Rattle.std.specs.Str.Parse.{digits_value}
 use Rattle.cmdlet_line.specs.declared.limits.TheConstants.{MOST_DIGITS}
+use Rattle.cmdlet_line.specs.declared.quotes.Place.{Place}
+use Rattle.cmdlet_line.specs.declared.quotes.Place.TheVariants as place
 
 -- only the byte 32 is a space: a tab is a byte of a word
 abbrev pub is_space : ℕ → Bool
@@ -16,13 +18,46 @@ is_no_space b = not (is_space b)
 abbrev pub behind_spaces : List ℕ → List ℕ
 behind_spaces line = drop (position_or_len is_no_space line) line
 
-abbrev pub has_bytes : List ℕ → Bool
-has_bytes [] = false
-has_bytes (b ∷ bytes) = true
+abbrev pub is_quote : ℕ → Bool
+is_quote b = b == 34
 
--- the words of a line without quotes: what stands between its spaces
-abbrev pub words_of : List ℕ → List (List ℕ)
-words_of line = filter has_bytes (slice_split is_space line)
+-- where the byte behind this one stands
+abbrev pub next : Place → ℕ → Place
+next place.Between b = cond (is_space b) place.Between (cond (is_quote b) place.Quoted place.Bare)
+next place.Bare b = cond (is_space b) place.Between (cond (is_quote b) place.Astray place.Bare)
+next place.Quoted b = cond (is_quote b) place.Closed place.Quoted
+next place.Closed b = cond (is_space b) place.Between place.Astray
+next place.Astray b = place.Astray
+
+-- where the byte behind all of these stands
+abbrev pub behind : Place → List ℕ → Place
+behind p [] = p
+behind p (b ∷ bytes) = behind (next p b) bytes
+
+-- may a line end here?
+abbrev pub is_end : Place → Bool
+is_end place.Between = true
+is_end place.Bare = true
+is_end place.Quoted = false
+is_end place.Closed = true
+is_end place.Astray = false
+
+abbrev pub has_bad_quote : List ℕ → Bool
+has_bad_quote line = not (is_end (behind place.Between line))
+
+-- the words from a place between words on, or from a place in a word that ends at this byte
+abbrev pub words_from : Option ℕ → List ℕ → List (List ℕ)
+words_from None [] = []
+words_from None (b ∷ bytes) =
+    cond (is_space b) (words_from None bytes)
+    (cond (is_quote b) (words_from (Some 34) bytes) (onto_first b (words_from (Some 32) bytes)))
+words_from (Some end) [] = [] ∷ []
+words_from (Some end) (b ∷ bytes) =
+    cond (b == end) ([] ∷ words_from None bytes) (onto_first b (words_from (Some end) bytes))
+
+-- the words of a line without bad quotes, each as what is between its spaces or its quotes
+unfoldable pub words_of : List ℕ → List (List ℕ)
+words_of line = words_from None line
 
 -- a numeral is 1 to 20 decimal digits, with no sign; leading zeros may be among them
 abbrev pub is_numeral : List ℕ → Bool

@@ -1,7 +1,7 @@
 // What a command's words ask, by the table of commands. Each group of the table ends in the next.
 ghost use Rattle.std.specs.Prelude.{◌≡◌, ◌∷◌, [], ℕ, List};
 ghost use Rattle.cmdlet_line.specs.Words.{words_of};
-ghost use Rattle.cmdlet_line.specs.Lines.{Gives, Kind, Makes, Number, Parameter, Row, Text, all_read, ask_of, asked, command_of, commands, Create, field, in_order, job_cmdlets, later_cmdlet, name_parameter, range_parameters, Read, volume_cmdlets, volume_commands, Write};
+ghost use Rattle.cmdlet_line.specs.Lines.{Gives, Kind, Makes, Number, Parameter, Row, Text, all_read, ask_of, asked, at_parameter, byte_parameter, command_of, commands, count_parameter, Create, Delete, Digest, Exit, field, Fill, fill_parameters, Flush, from_parameter, in_order, job_cmdlets, later_cmdlet, Length, length_parameter, Listing, name_parameter, range_parameters, Read, Rename, Stat, to_parameter, volume_cmdlets, volume_commands, Write};
 
 use crate::limits::MOST_COUNT;
 use crate::lines::{Line, LineFault};
@@ -18,13 +18,16 @@ pub(crate) fn command<'a>(word: &'a [u8], rest: &'a [u8]) -> Result<Line<'a>, Li
         write(rest)
     } else if word == b"read".as_slice() {
         read(rest)
-    } else if word == b"fill".as_slice()
-        || word == b"length".as_slice()
-        || word == b"rename".as_slice()
-        || word == b"delete".as_slice()
-        || word == b"digest".as_slice()
-    {
-        Err(LineFault::NotBuilt(word))
+    } else if word == b"fill".as_slice() {
+        fill(rest)
+    } else if word == b"length".as_slice() {
+        length(rest)
+    } else if word == b"rename".as_slice() {
+        rename(rest)
+    } else if word == b"delete".as_slice() {
+        delete(rest)
+    } else if word == b"digest".as_slice() {
+        digest(rest)
     } else {
         volume_command(word, rest)
     }
@@ -35,13 +38,15 @@ pub(crate) fn command<'a>(word: &'a [u8], rest: &'a [u8]) -> Result<Line<'a>, Li
 fn volume_command<'a>(word: &'a [u8], rest: &'a [u8]) -> Result<Line<'a>, LineFault<'a>>
     ensures { Gives ask_of result (command_of volume_commands word.now (words_of rest.now)) }
 {
-    if word == b"stat".as_slice()
-        || word == b"list".as_slice()
-        || word == b"flush".as_slice()
-        || word == b"turn".as_slice()
-        || word == b"load".as_slice()
-        || word == b"exit".as_slice()
-    {
+    if word == b"stat".as_slice() {
+        stat(rest)
+    } else if word == b"list".as_slice() {
+        alone(rest, Line::List)
+    } else if word == b"flush".as_slice() {
+        alone(rest, Line::Flush)
+    } else if word == b"exit".as_slice() {
+        alone(rest, Line::Exit)
+    } else if word == b"turn".as_slice() || word == b"load".as_slice() {
         Err(LineFault::NotBuilt(word))
     } else {
         volume_cmdlet(word, rest)
@@ -91,9 +96,7 @@ fn job_cmdlet<'a>(word: &'a [u8], rest: &'a [u8]) -> Result<Line<'a>, LineFault<
 fn create(rest: &[u8]) -> Result<Line<'_>, LineFault<'_>>
     ensures { Gives ask_of result (in_order (name_parameter ∷ []) Create (words_of rest.now)) }
 {
-    let (name, rest) = text(rest, "Name")?;
-    no_more(rest)?;
-    Ok(Line::Create(name))
+    Ok(Line::Create(name(rest)?))
 }
 
 fn write(rest: &[u8]) -> Result<Line<'_>, LineFault<'_>>
@@ -110,16 +113,103 @@ fn read(rest: &[u8]) -> Result<Line<'_>, LineFault<'_>>
     Ok(Line::Read(name, at, count))
 }
 
+fn fill(rest: &[u8]) -> Result<Line<'_>, LineFault<'_>>
+    ensures { Gives ask_of result (in_order fill_parameters Fill (words_of rest.now)) }
+{
+    let (name, rest) = text(rest, "Name")?;
+    let (at, words) = place(rest)?;
+    fill_from(name, at, words)
+}
+
+/// What `fill` asks by the words behind a name and a place.
+fn fill_from<'a>(name: &'a [u8], at: u64, rest: &'a [u8]) -> Result<Line<'a>, LineFault<'a>>
+    ensures { Gives ask_of result
+        (in_order (count_parameter ∷ byte_parameter ∷ []) (Fill name.now at) (words_of rest.now)) }
+{
+    let (count, words) = count(rest)?;
+    let (byte, words) = number_in(words, "Byte", 0, 255)?;
+    no_more(words)?;
+    Ok(Line::Fill(name, at, count, byte))
+}
+
+fn length(rest: &[u8]) -> Result<Line<'_>, LineFault<'_>>
+    ensures { Gives ask_of result (in_order (name_parameter ∷ length_parameter ∷ []) Length (words_of rest.now)) }
+{
+    let (name, rest) = text(rest, "Name")?;
+    let (length, rest) = number_in(rest, "Length", 0, u64::MAX)?;
+    no_more(rest)?;
+    Ok(Line::Length(name, length))
+}
+
+fn rename(rest: &[u8]) -> Result<Line<'_>, LineFault<'_>>
+    ensures { Gives ask_of result (in_order (from_parameter ∷ to_parameter ∷ []) Rename (words_of rest.now)) }
+{
+    let (source, rest) = text(rest, "From")?;
+    let (target, rest) = text(rest, "To")?;
+    no_more(rest)?;
+    Ok(Line::Rename(source, target))
+}
+
+fn delete(rest: &[u8]) -> Result<Line<'_>, LineFault<'_>>
+    ensures { Gives ask_of result (in_order (name_parameter ∷ []) Delete (words_of rest.now)) }
+{
+    Ok(Line::Delete(name(rest)?))
+}
+
+fn digest(rest: &[u8]) -> Result<Line<'_>, LineFault<'_>>
+    ensures { Gives ask_of result (in_order (name_parameter ∷ []) Digest (words_of rest.now)) }
+{
+    Ok(Line::Digest(name(rest)?))
+}
+
+fn stat(rest: &[u8]) -> Result<Line<'_>, LineFault<'_>>
+    ensures { Gives ask_of result (in_order (name_parameter ∷ []) Stat (words_of rest.now)) }
+{
+    Ok(Line::Stat(name(rest)?))
+}
+
+/// What a command without parameters asks.
+fn alone<'a>(rest: &'a [u8], line: Line<'a>) -> Result<Line<'a>, LineFault<'a>>
+    ensures { Gives ask_of result (in_order [] (ask_of line.entry) (words_of rest.now)) }
+{
+    no_more(rest)?;
+    Ok(line)
+}
+
+/// A name, with no word behind it.
+fn name(rest: &[u8]) -> Result<&[u8], LineFault<'_>>
+    ensures { (makes : Makes (name_parameter ∷ []))
+        → Gives (λ x. makes x.now) result (in_order (name_parameter ∷ []) makes (words_of rest.now)) }
+{
+    let (name, rest) = text(rest, "Name")?;
+    no_more(rest)?;
+    Ok(name)
+}
+
 /// A name, a place and a count, with no word behind them.
 fn range(rest: &[u8]) -> Result<(&[u8], u64, u64), LineFault<'_>>
     ensures { (makes : Makes range_parameters)
         → Gives (λ x. makes x.0.now x.1 x.2) result (in_order range_parameters makes (words_of rest.now)) }
 {
     let (name, rest) = text(rest, "Name")?;
-    let (at, rest) = number_in(rest, "At", 0, u64::MAX)?;
-    let (count, rest) = number_in(rest, "Count", 0, MOST_COUNT)?;
+    let (at, rest) = place(rest)?;
+    let (count, rest) = count(rest)?;
     no_more(rest)?;
     Ok((name, at, count))
+}
+
+/// The next word as a place in a file, and the bytes behind it.
+fn place(rest: &[u8]) -> Result<(u64, &[u8]), LineFault<'_>>
+    ensures { Gives (λ x. (x.0, words_of x.1.now)) result (field at_parameter (words_of rest.now)) }
+{
+    number_in(rest, "At", 0, u64::MAX)
+}
+
+/// The next word as a count of bytes, and the bytes behind it.
+fn count(rest: &[u8]) -> Result<(u64, &[u8]), LineFault<'_>>
+    ensures { Gives (λ x. (x.0, words_of x.1.now)) result (field count_parameter (words_of rest.now)) }
+{
+    number_in(rest, "Count", 0, MOST_COUNT)
 }
 
 /// The next word as it stands, and the bytes behind it.

@@ -1,11 +1,10 @@
 // Laws of the grammar, in the words of its rules. None of these functions does anything: each
 // states a fact about every line.
 ghost use Rattle.std.specs.Prelude.{◌≡◌, ◌==◌, ◌<◌, ◌≤◌, ◌+◌, ◌++◌, ◌∷◌, ◌^◌, ◌-◌, ◌≢◌, ◌↔◌, [], ℕ, List, codes, length, replicate, take, true, false, None, Some, Ok, Err, Result};
-ghost use Rattle.std.specs.List.{list_any};
 ghost use Rattle.std.specs.Fmt.{decimal};
-ghost use Rattle.cmdlet_line.specs.Words.{behind_spaces, number_in, words_of};
-ghost use Rattle.cmdlet_line.specs.Lines.{Ask, BadQuote, BadValue, LineTooLong, MissingValue, Refusal, Silent, UnknownParameter, is_silent, line_of};
-ghost use Rattle.cmdlet_line.specs.Spelled.{AreInRange, AreSpaced, IsPlain, Spaced, laid, words_for, words_laid};
+ghost use Rattle.cmdlet_line.specs.Words.{behind_spaces, number_in};
+ghost use Rattle.cmdlet_line.specs.Lines.{Ask, BadQuote, BadValue, LineTooLong, MissingValue, NotBuilt, Refusal, Silent, UnknownCommand, UnknownParameter, is_command, is_silent, line_of, split};
+ghost use Rattle.cmdlet_line.specs.Spelled.{AreInRange, AreSpaced, HasNoQuote, HasWords, IsNumber, IsWord, Spaced, between_spaces, laid, words_for, words_laid};
 
 use crate::limits::{MOST_COUNT, MOST_DIGITS, MOST_LINE};
 
@@ -43,20 +42,47 @@ pub fn remarks_are_silent()
         → line_of volume (replicate n 32 ++ 35 ∷ rest) ≡ Ok Silent }
 {}
 
-/// A double quote in any other line is refused.
-pub fn quotes_are_refused()
-    ensures { (volume line : List ℕ) → length line ≤ MOST_LINE → is_silent (behind_spaces line) ≡ false
-        → list_any (λ b. b == 34) line ≡ true → line_of volume line ≡ Err BadQuote }
-{}
-
-/// Words are what stands between spaces, however many these are.
+/// Words are what stands between spaces, however many these are, and between two double quotes.
 pub fn spaced_words_are_read()
-    ensures { (spaced : List Spaced) (last : ℕ) → AreSpaced 0 spaced → words_of (laid spaced last) ≡ words_laid spaced }
+    ensures { (spaced : List Spaced) (last : ℕ) → AreSpaced 0 spaced
+        → split (laid spaced last) ≡ Ok (words_laid spaced) }
 {}
 
-/// Each line is words behind their spaces.
+/// Each line that has words is its words behind their spaces.
 pub fn each_line_is_spaced_words()
-    ensures { (line : List ℕ) → (spaced : List Spaced) × (last : ℕ) × AreSpaced 0 spaced × (line ≡ laid spaced last) }
+    ensures { (line : List ℕ) (words : List (List ℕ)) → split line ≡ Ok words
+        → (spaced : List Spaced) × (last : ℕ) × AreSpaced 0 spaced × (line ≡ laid spaced last)
+        × (words ≡ words_laid spaced) }
+{}
+
+/// Any other double quote is refused: one in a line that is no such row of words.
+pub fn other_quotes_are_refused()
+    ensures { (volume line : List ℕ) → length line ≤ MOST_LINE → is_silent (behind_spaces line) ≡ false
+        → ((spaced : List Spaced) (last : ℕ) → AreSpaced 0 spaced → line ≢ laid spaced last)
+        → line_of volume line ≡ Err BadQuote }
+{}
+
+/// So a double quote is refused inside a bare word, where anything but a space stands behind a
+/// quoted word, and where it is not closed.
+pub fn quotes_stand_round_whole_words()
+    ensures inside { (front word rest : List ℕ) (words : List (List ℕ)) → split front ≡ Ok words
+        → IsWord false word → split (front ++ 32 ∷ (word ++ 34 ∷ rest)) ≡ Err BadQuote }
+    ensures touched { (front word rest : List ℕ) (b : ℕ) (words : List (List ℕ)) → split front ≡ Ok words
+        → IsWord true word → b ≢ 32 → split (front ++ 32 ∷ 34 ∷ (word ++ 34 ∷ b ∷ rest)) ≡ Err BadQuote }
+    ensures unclosed { (front word : List ℕ) (words : List (List ℕ)) → split front ≡ Ok words
+        → IsWord true word → split (front ++ 32 ∷ 34 ∷ word) ≡ Err BadQuote }
+{}
+
+/// The words of a line without quotes are what stands between its spaces.
+pub fn lines_without_quotes_are_cut_at_spaces()
+    ensures { (line : List ℕ) → HasNoQuote line → split line ≡ Ok (between_spaces line) }
+{}
+
+/// A word is a number exactly where it is 1 to 20 digits without a sign, and what they write is
+/// in range.
+pub fn numbers_are_digits_in_range()
+    ensures { (least most n : ℕ) (word : List ℕ) → (number_in least most word ≡ Some n)
+        ↔ IsNumber least most n word }
 {}
 
 /// The decimal of a number is read as that number.
@@ -66,34 +92,44 @@ pub fn decimals_are_read()
 
 /// A line that has the words of what is asked asks it.
 pub fn words_ask_what_they_say()
-    ensures { (volume line : List ℕ) (ask : Ask) → IsPlain line → AreInRange ask → words_of line ≡ words_for ask
+    ensures { (volume line : List ℕ) (ask : Ask) → AreInRange ask → HasWords line (words_for ask)
         → line_of volume line ≡ Ok ask }
 {}
 
 /// A line that has more words is refused by the first of them.
 pub fn further_words_are_refused()
-    ensures { (volume line word : List ℕ) (ask : Ask) (rest : List (List ℕ)) → IsPlain line → AreInRange ask
-        → ask ≢ Silent → words_of line ≡ words_for ask ++ word ∷ rest
-        → line_of volume line ≡ Err (UnknownParameter word) }
+    ensures { (volume line word : List ℕ) (ask : Ask) (rest : List (List ℕ)) → AreInRange ask → ask ≢ Silent
+        → HasWords line (words_for ask ++ word ∷ rest) → line_of volume line ≡ Err (UnknownParameter word) }
+{}
+
+/// The command is looked at before the words behind it.
+pub fn commands_come_before_their_words()
+    ensures unknown { (volume line word : List ℕ) (rest : List (List ℕ)) → HasWords line (word ∷ rest)
+        → is_silent (behind_spaces line) ≡ false → is_command word ≡ false
+        → line_of volume line ≡ Err (UnknownCommand word) }
+    ensures turn { (volume line : List ℕ) (rest : List (List ℕ)) → HasWords line (codes "turn" ∷ rest)
+        → line_of volume line ≡ Err (NotBuilt (codes "turn")) }
+    ensures load { (volume line : List ℕ) (rest : List (List ℕ)) → HasWords line (codes "load" ∷ rest)
+        → line_of volume line ≡ Err (NotBuilt (codes "load")) }
 {}
 
 /// The first word at fault from the left decides, whatever stands behind it.
 pub fn first_fault_decides()
-    ensures at { (volume line name at : List ℕ) (rest : List (List ℕ)) → IsPlain line
-        → words_of line ≡ codes "write" ∷ name ∷ at ∷ rest → number_in 0 (2 ^ 64 - 1) at ≡ None
+    ensures at { (volume line name at : List ℕ) (rest : List (List ℕ))
+        → HasWords line (codes "write" ∷ name ∷ at ∷ rest) → number_in 0 (2 ^ 64 - 1) at ≡ None
         → line_of volume line ≡ Err (BadValue (codes "At")) }
-    ensures count { (volume line name at count : List ℕ) (rest : List (List ℕ)) → IsPlain line
-        → words_of line ≡ codes "write" ∷ name ∷ at ∷ count ∷ rest
+    ensures count { (volume line name at count : List ℕ) (rest : List (List ℕ))
+        → HasWords line (codes "write" ∷ name ∷ at ∷ count ∷ rest)
         → number_in 0 (2 ^ 64 - 1) at ≢ None → number_in 0 MOST_COUNT count ≡ None
         → line_of volume line ≡ Err (BadValue (codes "Count")) }
 {}
 
 /// A line with too few words is refused by the parameter that the first missing word stands for.
 pub fn missing_words_are_named()
-    ensures name { (volume line : List ℕ) → IsPlain line → words_of line ≡ codes "write" ∷ []
+    ensures name { (volume line : List ℕ) → HasWords line (codes "write" ∷ [])
         → line_of volume line ≡ Err (MissingValue (codes "Name")) }
-    ensures at { (volume line name : List ℕ) → IsPlain line → words_of line ≡ codes "write" ∷ name ∷ []
+    ensures at { (volume line name : List ℕ) → HasWords line (codes "write" ∷ name ∷ [])
         → line_of volume line ≡ Err (MissingValue (codes "At")) }
-    ensures count { (volume line name at : List ℕ) → IsPlain line → words_of line ≡ codes "write" ∷ name ∷ at ∷ []
+    ensures count { (volume line name at : List ℕ) → HasWords line (codes "write" ∷ name ∷ at ∷ [])
         → number_in 0 (2 ^ 64 - 1) at ≢ None → line_of volume line ≡ Err (MissingValue (codes "Count")) }
 {}

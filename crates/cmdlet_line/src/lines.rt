@@ -12,6 +12,24 @@ pub enum Line<'a> {
     Write(&'a [u8], u64, u64),
     /// `read NAME AT COUNT`: read COUNT bytes from byte AT on.
     Read(&'a [u8], u64, u64),
+    /// `fill NAME AT COUNT BYTE`: write COUNT bytes from byte AT on, each of them BYTE.
+    Fill(&'a [u8], u64, u64, u64),
+    /// `length NAME N`: give the file N bytes, cut off or with zeros behind.
+    Length(&'a [u8], u64),
+    /// `rename FROM TO`: the file FROM is called TO.
+    Rename(&'a [u8], &'a [u8]),
+    /// `delete NAME`: remove the file.
+    Delete(&'a [u8]),
+    /// `digest NAME`: tell the SHA-256 of the file's bytes.
+    Digest(&'a [u8]),
+    /// `stat NAME`: tell the file's length.
+    Stat(&'a [u8]),
+    /// `list`: tell the length and the name of each file.
+    List,
+    /// `flush`: what was done so far is durable when the answer comes.
+    Flush,
+    /// `exit`: close the volume and end the run.
+    Exit,
 }
 
 /// Why a line is refused. A slice is the word at fault, a text the name of its parameter.

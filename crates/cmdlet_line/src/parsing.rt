@@ -1,12 +1,12 @@
 // A line, by its grammar.
 ghost use Rattle.std.specs.Prelude.{◌≡◌, ◌==◌, ◌∷◌, [], ℕ, List, length};
-ghost use Rattle.std.specs.List.{list_any};
 ghost use Rattle.cmdlet_line.specs.Words.{words_of};
 ghost use Rattle.cmdlet_line.specs.Lines.{Gives, ask_of, asked_by, is_silent, line_of};
 
 use crate::commands::command;
 use crate::limits::MOST_LINE;
 use crate::lines::{Line, LineFault};
+use crate::quotes::has_bad_quote;
 use crate::spelling::{first_word, text_of};
 
 /// What a line asks, without its newline and the carriage return before that, or its first fault
@@ -20,7 +20,7 @@ pub fn parse(line: &[u8], volume: [u8; 2]) -> Result<Line<'_>, LineFault<'_>>
     if is_silent(text_of(line)) {
         return Ok(Line::Silent);
     }
-    if has_quote(line) {
+    if has_bad_quote(line) {
         return Err(LineFault::BadQuote);
     }
     asked_by(line)
@@ -33,13 +33,7 @@ fn is_silent(text: &[u8]) -> bool
     matches!(text, [] | [b'#', ..])
 }
 
-fn has_quote(line: &[u8]) -> bool
-    ensures { result ≡ list_any (λ b. b == 34) line.now }
-{
-    line.iter().any(|byte| *byte == b'"')
-}
-
-/// What the words of a line without quotes ask.
+/// What the words of a line without bad quotes ask.
 fn asked_by(line: &[u8]) -> Result<Line<'_>, LineFault<'_>>
     ensures { Gives ask_of result (asked_by (words_of line.now)) }
 {

@@ -1,10 +1,10 @@
 // Words from the left, and what they spell.
-ghost use Rattle.std.specs.Prelude.{◌≡◌, ◌∷◌, ◌≤◌, ◌<◌, [], ℕ, List, length, MatchOption, true};
+ghost use Rattle.std.specs.Prelude.{◌≡◌, ◌∷◌, ◌≤◌, ◌<◌, ◌==◌, [], ℕ, List, length, MatchOption, Some, true};
 ghost use Rattle.std.specs.List.{list_all, position};
 ghost use Rattle.std.specs.Char.{is_ascii_digit};
 ghost use Rattle.std.specs.Str.{str_eq_ignore_ascii_case};
 ghost use Rattle.std.specs.Str.Parse.{digits_value};
-ghost use Rattle.cmdlet_line.specs.Words.{behind_spaces, is_no_space, is_numeral, is_space, number_in, number_of, within, words_of};
+ghost use Rattle.cmdlet_line.specs.Words.{behind_spaces, is_no_space, is_numeral, number_in, number_of, within, words_from, words_of};
 
 use crate::limits::MOST_DIGITS;
 
@@ -22,7 +22,7 @@ fn first_text(line: &[u8]) -> Option<usize>
     line.iter().position(|byte| *byte != b' ')
 }
 
-/// The first word, and the bytes behind it.
+/// The first word without its quotes, and the bytes behind it, in a line without bad quotes.
 pub(crate) fn first_word(line: &[u8]) -> Option<(&[u8], &[u8])>
     ensures { MatchOption result (words_of line.now ≡ [])
         (λ found. words_of line.now ≡ found.0.now ∷ words_of found.1.now) }
@@ -31,14 +31,27 @@ pub(crate) fn first_word(line: &[u8]) -> Option<(&[u8], &[u8])>
     if text.is_empty() {
         return None;
     }
-    let end = first_space(text).unwrap_or(text.len());
-    Some((&text[..end], &text[end..]))
+    if text[0] == b'"' {
+        Some(word_until(b'"', &text[1..]))
+    } else {
+        Some(word_until(b' ', text))
+    }
 }
 
-fn first_space(text: &[u8]) -> Option<usize>
-    ensures { result ≡ position is_space text.now }
+/// What stands before the first byte `end`, and what stands behind that byte.
+fn word_until(end: u8, text: &[u8]) -> (&[u8], &[u8])
+    ensures { words_from (Some end) text.now ≡ result.0.now ∷ words_of result.1.now }
 {
-    text.iter().position(|byte| *byte == b' ')
+    match first_place(end, text) {
+        Some(at) => (&text[..at], &text[at + 1..]),
+        None => (text, &[]),
+    }
+}
+
+fn first_place(byte: u8, text: &[u8]) -> Option<usize>
+    ensures { result ≡ position (λ b. b == byte) text.now }
+{
+    text.iter().position(|other| *other == byte)
 }
 
 /// Does the word spell the name, without regard to ASCII case?

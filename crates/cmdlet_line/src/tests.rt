@@ -23,7 +23,7 @@ fn silent() -> [(&'static [u8], Answer); 8] {
 }
 
 /// Lines that are accepted.
-fn accepted() -> [(&'static [u8], Answer); 22] {
+fn accepted() -> [(&'static [u8], Answer); 34] {
     [
         (b"create a", Ok(Line::Create(b"a"))),
         (b"  create   a  ", Ok(Line::Create(b"a"))),
@@ -56,11 +56,29 @@ fn accepted() -> [(&'static [u8], Answer); 22] {
         (b"read a 0 0", Ok(Line::Read(b"a", 0, 0))),
         (b"read\x20a\x20\x20010  00", Ok(Line::Read(b"a", 10, 0))),
         (b"read 1 2 3", Ok(Line::Read(b"1", 2, 3))),
+        (b"fill a 0 1 2", Ok(Line::Fill(b"a", 0, 1, 2))),
+        (
+            b"fill a 18446744073709551615 1048576 255",
+            Ok(Line::Fill(b"a", 18446744073709551615, 1048576, 255)),
+        ),
+        (b"length a 0", Ok(Line::Length(b"a", 0))),
+        (
+            b"length a 18446744073709551615",
+            Ok(Line::Length(b"a", 18446744073709551615)),
+        ),
+        (b"rename a b", Ok(Line::Rename(b"a", b"b"))),
+        (b"rename b a", Ok(Line::Rename(b"b", b"a"))),
+        (b"delete a", Ok(Line::Delete(b"a"))),
+        (b"digest a", Ok(Line::Digest(b"a"))),
+        (b"stat stat", Ok(Line::Stat(b"stat"))),
+        (b"list", Ok(Line::List)),
+        (b"  flush  ", Ok(Line::Flush)),
+        (b"exit", Ok(Line::Exit)),
     ]
 }
 
 /// Lines whose words are at fault, the first from the left.
-fn faulty_words() -> [(&'static [u8], Answer); 24] {
+fn faulty_words() -> [(&'static [u8], Answer); 46] {
     [
         (b"create", Err(MissingValue("Name"))),
         (b"create   ", Err(MissingValue("Name"))),
@@ -86,18 +104,95 @@ fn faulty_words() -> [(&'static [u8], Answer); 24] {
         (b"read a 0 1\r", Err(BadValue("Count"))),
         (b"read a", Err(MissingValue("At"))),
         (b"read a 0 1048577", Err(BadValue("Count"))),
+        (b"fill", Err(MissingValue("Name"))),
+        (b"fill a", Err(MissingValue("At"))),
+        (b"fill a 0", Err(MissingValue("Count"))),
+        (b"fill a 0 1", Err(MissingValue("Byte"))),
+        (b"fill a 0 1 256", Err(BadValue("Byte"))),
+        (b"fill a 0 1048577 256", Err(BadValue("Count"))),
+        (b"fill a x 1048577 256", Err(BadValue("At"))),
+        (b"fill a 0 1 2 3", Err(UnknownParameter(b"3"))),
+        (b"length a", Err(MissingValue("Length"))),
+        (b"length a -1", Err(BadValue("Length"))),
+        (b"length a 18446744073709551616", Err(BadValue("Length"))),
+        (b"length a 0 0", Err(UnknownParameter(b"0"))),
+        (b"rename", Err(MissingValue("From"))),
+        (b"rename a", Err(MissingValue("To"))),
+        (b"rename a b c", Err(UnknownParameter(b"c"))),
+        (b"delete", Err(MissingValue("Name"))),
+        (b"digest a b c d", Err(UnknownParameter(b"b"))),
+        (b"stat", Err(MissingValue("Name"))),
+        (b"list a", Err(UnknownParameter(b"a"))),
+        (b"flush 1", Err(UnknownParameter(b"1"))),
+        (b"exit 0 1", Err(UnknownParameter(b"0"))),
+        (b"delete a #", Err(UnknownParameter(b"#"))),
     ]
 }
 
-/// Lines that are refused before their words: quotes, and first words that are no command.
-fn faulty_lines() -> [(&'static [u8], Answer); 18] {
+/// Lines with quoted words, each of which stands for what is between its quotes.
+fn quoted_words() -> [(&'static [u8], Answer); 26] {
+    [
+        (b"create \"a\"", Ok(Line::Create(b"a"))),
+        (b"create \"a b\"", Ok(Line::Create(b"a b"))),
+        (b"create \"\"", Ok(Line::Create(b""))),
+        (b"create \"  \"", Ok(Line::Create(b"  "))),
+        (b"create \" a\"  ", Ok(Line::Create(b" a"))),
+        (b"create \"#\"", Ok(Line::Create(b"#"))),
+        (b"create \"a\tb\r\xff\"", Ok(Line::Create(b"a\tb\r\xff"))),
+        (b"\"create\" a", Ok(Line::Create(b"a"))),
+        (b"  \"create\"   \"a\"", Ok(Line::Create(b"a"))),
+        (b"write \"a b\" \"7\" \"5\"", Ok(Line::Write(b"a b", 7, 5))),
+        (
+            b"rename \"a b\" \"c  d\"",
+            Ok(Line::Rename(b"a b", b"c  d")),
+        ),
+        (b"rename a \"b c\"", Ok(Line::Rename(b"a", b"b c"))),
+        (b"rename \"\" \"\"", Ok(Line::Rename(b"", b""))),
+        (b"\"list\"", Ok(Line::List)),
+        (b"list \"\"", Err(UnknownParameter(b""))),
+        (b"stat \"a b\" \"c d\"", Err(UnknownParameter(b"c d"))),
+        (b"read a \"\" 1", Err(BadValue("At"))),
+        (b"read a \"1 \" 1", Err(BadValue("At"))),
+        (b"read a 0 \" 1\"", Err(BadValue("Count"))),
+        (b"\"\"", Err(UnknownCommand(b""))),
+        (b"\"\" a", Err(UnknownCommand(b""))),
+        (b"\"#\"", Err(UnknownCommand(b"#"))),
+        (b"\"create a\"", Err(UnknownCommand(b"create a"))),
+        (b"\"Create\" a", Err(UnknownCommand(b"Create"))),
+        (b"\"turn\" 1", Err(NotBuilt(b"turn"))),
+        (b"\"get-dedupstatus\"", Err(NotBuilt(b"get-dedupstatus"))),
+    ]
+}
+
+/// Lines with a double quote where none may stand, before any other fault.
+fn bad_quotes() -> [(&'static [u8], Answer); 20] {
     [
         (b"\"", Err(BadQuote)),
-        (b"create \"a b\"", Err(BadQuote)),
+        (b"\"\"\"", Err(BadQuote)),
+        (b"\"\"\"\"", Err(BadQuote)),
+        (b"create \"", Err(BadQuote)),
+        (b"create \"a", Err(BadQuote)),
+        (b"create \"a b ", Err(BadQuote)),
         (b"create a\"", Err(BadQuote)),
-        (b"wrong \"a\" #", Err(BadQuote)),
+        (b"create a\"b", Err(BadQuote)),
+        (b"create a\"b\"", Err(BadQuote)),
+        (b"create a\"b c\"", Err(BadQuote)),
+        (b"create \"a\"b", Err(BadQuote)),
+        (b"create \"a\"\"b\"", Err(BadQuote)),
+        (b"create \"a\"\t", Err(BadQuote)),
+        (b"create\"a\"", Err(BadQuote)),
+        (b"wrong \"a\" \"", Err(BadQuote)),
+        (b"turn 1 \"", Err(BadQuote)),
         (b"\t#\"", Err(BadQuote)),
-        (b"list \"", Err(BadQuote)),
+        (b"list a \"", Err(BadQuote)),
+        (b"create a # \"", Err(BadQuote)),
+        (b"\"# a", Err(BadQuote)),
+    ]
+}
+
+/// Lines whose first words are no command.
+fn unknown_commands() -> [(&'static [u8], Answer); 12] {
+    [
         (b"\t", Err(UnknownCommand(b"\t"))),
         (b"\tcreate a", Err(UnknownCommand(b"\tcreate"))),
         (b"\r", Err(UnknownCommand(b"\r"))),
@@ -113,30 +208,21 @@ fn faulty_lines() -> [(&'static [u8], Answer); 18] {
     ]
 }
 
-/// Commands that are known and not built yet, and the same word in other letters.
-fn other_commands() -> [(&'static [u8], Answer); 22] {
+/// Commands that are known and not built yet, and commands in other letters.
+fn other_commands() -> [(&'static [u8], Answer); 13] {
     [
-        (b"fill a 0 1 2", Err(NotBuilt(b"fill"))),
         (b"Fill a 0 1 2", Err(UnknownCommand(b"Fill"))),
-        (b"length", Err(NotBuilt(b"length"))),
         (b"LENGTH", Err(UnknownCommand(b"LENGTH"))),
-        (b"rename a b", Err(NotBuilt(b"rename"))),
         (b"Rename a b", Err(UnknownCommand(b"Rename"))),
-        (b"delete a", Err(NotBuilt(b"delete"))),
         (b"deletE a", Err(UnknownCommand(b"deletE"))),
-        (b"digest a b c d", Err(NotBuilt(b"digest"))),
         (b"Digest a", Err(UnknownCommand(b"Digest"))),
-        (b"stat a", Err(NotBuilt(b"stat"))),
         (b"Stat a", Err(UnknownCommand(b"Stat"))),
-        (b"list", Err(NotBuilt(b"list"))),
         (b"List", Err(UnknownCommand(b"List"))),
-        (b"  flush  ", Err(NotBuilt(b"flush"))),
         (b"FLUSH", Err(UnknownCommand(b"FLUSH"))),
         (b"turn 1", Err(NotBuilt(b"turn"))),
         (b"Turn 1", Err(UnknownCommand(b"Turn"))),
         (b"load 0 1", Err(NotBuilt(b"load"))),
         (b"lOAD 0 1", Err(UnknownCommand(b"lOAD"))),
-        (b"exit", Err(NotBuilt(b"exit"))),
         (b"Exit", Err(UnknownCommand(b"Exit"))),
     ]
 }
@@ -191,7 +277,9 @@ fn lines_are_answered_by_the_rules(rt: HostRuntime) {
     answers_as_told(&rt, &silent());
     answers_as_told(&rt, &accepted());
     answers_as_told(&rt, &faulty_words());
-    answers_as_told(&rt, &faulty_lines());
+    answers_as_told(&rt, &quoted_words());
+    answers_as_told(&rt, &bad_quotes());
+    answers_as_told(&rt, &unknown_commands());
     answers_as_told(&rt, &other_commands());
     for word in cmdlets() {
         assert_eq!(rt; parse(word, *b"D:"), Err(NotBuilt(word)), "{word:?}");

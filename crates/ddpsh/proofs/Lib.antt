@@ -3,9 +3,12 @@ pub mod LineLaws
 pub mod PayloadLaws
 pub mod ItemLaws
 pub mod PutLaws
-pub mod SessionLaws
-pub mod RunLaws
-pub mod LoopLaws
 pub mod CommandLaws
-pub mod TopLaws
+pub mod RunLaws
+pub mod CrashLaws
+pub mod CallLaws
+pub mod ListLaws
+pub mod LineOfLaws
+pub mod StageLaws
 pub mod OneOutput
+pub mod TopLaws

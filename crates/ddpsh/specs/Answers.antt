@@ -1,17 +1,17 @@
 -- What is printed for an item, and which calls it makes.
-use Rattle.std.specs.Prelude.{◌≡◌, ◌⊎◌, ℕ, Bool, true, false, List, [], ◌∷◌, ◌++◌, length, Option, Some, None, codes, decimal}
-use Rattle.cmdlet_line.specs.Lines.{Ask, Silent, Create, Write, Read}
+use Rattle.std.specs.Prelude.{◌≡◌, ◌⊎◌, ℕ, Bool, true, false, List, [], ◌∷◌, ◌++◌, length, replicate, Option, Some, None, codes, decimal}
+use Rattle.hex.specs.Hex.{encode_lower}
+use Rattle.cmdlet_line.specs.Lines.{Ask, Silent, Create, Write, Read, Fill, Length, Rename, Delete, Digest, Stat, Listing, Flush, Exit}
 use Rattle.cmdlet_line.specs.Lines.{Refusal, LineTooLong, BadQuote, UnknownCommand, NotBuilt, UnknownParameter, LeftOut, RepeatedParameter, MissingValue, BadValue, MissingParameter}
-use Rattle.plain_volume.specs.Step.{plain}
 use Rattle.plain_volume.specs.Step.{after as volume_after}
-use Rattle.plain_volume.specs.Replies.{own_reply}
 use Rattle.plain_volume.specs.declared.call.Call.{Call}
 use Rattle.plain_volume.specs.declared.call.Call.TheVariants as call
 use Rattle.plain_volume.specs.declared.call.Reply.{Reply}
 use Rattle.plain_volume.specs.declared.call.Reply.TheVariants as reply
 use Rattle.plain_volume.specs.declared.call.Fault.{Fault}
 use Rattle.plain_volume.specs.declared.call.Fault.TheVariants as fault
-use Rattle.ddpsh.specs.States.{State}
+use Rattle.ddpsh.specs.States.{State, reply_in}
+use Rattle.ddpsh.specs.Listing.{listing, file_lines}
 use Rattle.ddpsh.specs.Script.{Item, Bad, Bare, Paid, Cut, Spoilt}
 
 pub data Answer : Type 0 where
@@ -69,8 +69,9 @@ refusal_text (MissingValue title) = codes " MissingValue " ++ title
 refusal_text (BadValue title) = codes " BadValue " ++ title
 refusal_text (MissingParameter title) = codes " MissingParameter " ++ title
 
--- what a refused call prints; want of memory prints nothing, since the run ends there
+-- what a refused call prints; a fault of the device and want of memory print nothing, since the run ends there
 abbrev pub said_fault : Fault → Option Answer
+said_fault fault.Failed = None
 said_fault fault.Memory = None
 said_fault other = Some (Refused (fault_text other))
 
@@ -78,21 +79,35 @@ said_fault other = Some (Refused (fault_text other))
 abbrev pub said : Reply → Option Answer
 said reply.Done = Some (Accepted [])
 said (reply.Bytes bytes) = Some (Accepted (number (length bytes) ++ 10 ∷ bytes))
+said (reply.Digest digest) = Some (Accepted (32 ∷ encode_lower digest))
+said (reply.Length size) = Some (Accepted (number size))
 said (reply.Refused other) = said_fault other
 said other = None
 
--- the state that a call with its reply leaves
-abbrev pub left_by_call : State → Call → Reply → State
-left_by_call before call given = record { volume = volume_after before.volume call given }
-
--- a line of one call, to which the volume gives the plain machine's own reply
-abbrev pub OneCall : Call → State → List (Call × Reply) → Answer → State → Type 0
-OneCall call before calls answer after = (given : Reply) × (given ≡ own_reply (plain before.volume call))
-    × (calls ≡ (call, given) ∷ []) × (said given ≡ Some answer) × (after ≡ left_by_call before call given)
+-- A line of one call. The volume gives the plain machine's own reply, or the resource that is wanting.
+pub record OneCall (call : Call) (before : State) (calls : List (Call × Reply)) (answer : Answer) (after : State) : Type 0 where
+  pub calls_are : calls ≡ (call, reply_in before call) ∷ []
+  pub says : said (reply_in before call) ≡ Some answer
+  pub leaves : after.volume ≡ volume_after before.volume call (reply_in before call)
 
 -- a line of no call, whose answer is told by the state
-abbrev pub NoCall : (State → Answer) → State → List (Call × Reply) → Answer → State → Type 0
-NoCall says before calls answer after = (calls ≡ []) × (answer ≡ says before) × (after ≡ before)
+pub record NoCall (says : State → Answer) (before : State) (calls : List (Call × Reply)) (answer : Answer) (after : State) : Type 0 where
+  pub calls_are : calls ≡ []
+  pub says_so : answer ≡ says before
+  pub leaves : after ≡ before
+
+-- A line that lets the volume go. What is not durable yet is made so, which is no call of a user, and which is
+-- refused where a flush is.
+pub record Unmounts (before : State) (calls : List (Call × Reply)) (answer : Answer) (after : State) : Type 0 where
+  pub calls_are : calls ≡ []
+  pub says : said (reply_in before call.Flush) ≡ Some answer
+  pub leaves : after.volume ≡ before.volume
+
+-- A line that lists the files: their number, and behind it the line of each.
+pub record Lists (before : State) (calls : List (Call × Reply)) (answer : Answer) (after : State) : Type 0 where
+  pub calls_are : calls ≡ listing None before.volume
+  pub says : answer ≡ Accepted (number (length before.volume) ++ file_lines before.volume)
+  pub leaves : after.volume ≡ before.volume
 
 -- the calls of an accepted line with their replies, and its answer to these
 abbrev pub Serves : Ask → List ℕ → State → List (Call × Reply) → Answer → State → Type 0
@@ -100,6 +115,15 @@ Serves Silent payload = NoCall (λ before. Nothing)
 Serves (Create name) payload = OneCall (call.Create name)
 Serves (Write name at count) payload = OneCall (call.Write name at payload)
 Serves (Read name at count) payload = OneCall (call.Read name at count)
+Serves (Fill name at count byte) payload = OneCall (call.Write name at (replicate count byte))
+Serves (Length name size) payload = OneCall (call.SetLength name size)
+Serves (Rename source target) payload = OneCall (call.Rename source target)
+Serves (Delete name) payload = OneCall (call.Delete name)
+Serves (Digest name) payload = OneCall (call.Digest name)
+Serves (Stat name) payload = OneCall (call.Stat name)
+Serves Listing payload = Lists
+Serves Flush payload = OneCall call.Flush
+Serves Exit payload = Unmounts
 
 -- the calls of an item with their replies, its answer, and the state that it leaves
 abbrev pub Comes : Item → State → List (Call × Reply) → Answer → State → Type 0
@@ -109,21 +133,59 @@ Comes (Paid ask payload) = Serves ask payload
 Comes Cut = NoCall (λ before. Refused (codes " Cut"))
 Comes Spoilt = NoCall (λ before. Refused (codes " PayloadEnd"))
 
--- a line of one call in which the run ended: the call was not made, or it has the machine's own reply or wanted memory
+-- A line of one call in which the run ended: the call was not made, or it has the reply of its state, wanted memory, or
+-- met a fault of the device.
 abbrev pub OneBegun : Call → State → List (Call × Reply) → Type 0
 OneBegun call before calls = (calls ≡ []) ⊎ ((given : Reply) × (calls ≡ (call, given) ∷ [])
-    × ((given ≡ own_reply (plain before.volume call)) ⊎ (given ≡ reply.Refused fault.Memory)))
+    × ((given ≡ reply_in before call) ⊎ ((given ≡ reply.Refused fault.Memory) ⊎ (given ≡ reply.Refused fault.Failed))))
+
+-- the call that is due next, which wanted memory
+abbrev pub LacksMemory : List (Call × Reply) → List (Call × Reply) → Type 0
+LacksMemory [] last = ⊥
+LacksMemory (due ∷ rest) last = last ≡ (due.0, reply.Refused fault.Memory) ∷ []
+
+-- A list in which the run ended: a front of its calls was made, behind which one may have wanted memory.
+pub record ListBegun (before : State) (calls : List (Call × Reply)) : Type 0 where
+  pub front : List (Call × Reply)
+  pub rest : List (Call × Reply)
+  pub last : List (Call × Reply)
+  pub whole : listing None before.volume ≡ front ++ rest
+  pub calls_are : calls ≡ front ++ last
+  pub wanted : (last ≡ []) ⊎ LacksMemory rest last
 
 -- the calls that a line had made where the run ended in it
 abbrev pub Begun : Ask → List ℕ → State → List (Call × Reply) → Type 0
-Begun Silent payload before calls = calls ≡ []
 Begun (Create name) payload before calls = OneBegun (call.Create name) before calls
 Begun (Write name at count) payload before calls = OneBegun (call.Write name at payload) before calls
 Begun (Read name at count) payload before calls = OneBegun (call.Read name at count) before calls
+Begun (Fill name at count byte) payload before calls =
+    OneBegun (call.Write name at (replicate count byte)) before calls
+Begun (Length name size) payload before calls = OneBegun (call.SetLength name size) before calls
+Begun (Rename source target) payload before calls = OneBegun (call.Rename source target) before calls
+Begun (Delete name) payload before calls = OneBegun (call.Delete name) before calls
+Begun (Digest name) payload before calls = OneBegun (call.Digest name) before calls
+Begun (Stat name) payload before calls = OneBegun (call.Stat name) before calls
+Begun Listing payload before calls = ListBegun before calls
+Begun Flush payload before calls = OneBegun call.Flush before calls
+Begun other payload before calls = calls ≡ []
 
 abbrev pub Starts : Item → State → List (Call × Reply) → Type 0
-Starts (Bad refusal) before calls = calls ≡ []
 Starts (Bare ask) before calls = Begun ask [] before calls
 Starts (Paid ask payload) before calls = Begun ask payload before calls
-Starts Cut before calls = calls ≡ []
-Starts Spoilt before calls = calls ≡ []
+Starts other before calls = calls ≡ []
+
+-- the line acknowledges that all calls so far are durable, once its whole answer is written
+abbrev pub is_durable : Item → Bool
+is_durable (Bare Flush) = true
+is_durable (Bare Exit) = true
+is_durable other = false
+
+-- the line lets the volume go
+abbrev pub is_exit : Item → Bool
+is_exit (Bare Exit) = true
+is_exit other = false
+
+abbrev pub is_accepted : Answer → Bool
+is_accepted Nothing = false
+is_accepted (Accepted more) = true
+is_accepted (Refused more) = false

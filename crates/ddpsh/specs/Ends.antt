@@ -1,75 +1,112 @@
 -- How a run ends.
-use Rattle.std.specs.Prelude.{◌≡◌, ℕ, Bool, true, false, List, [], Option, length}
-use Rattle.ddpsh.specs.States.{State}
-use Rattle.ddpsh.specs.Input.{IsLeft}
+use Rattle.std.specs.Prelude.{◌≡◌, ◌+◌, ◌&&◌, ℕ, Bool, true, false, List, [], ◌∷◌, ◌++◌, Option, Some, None, length, map}
+use Rattle.plain_volume.specs.declared.call.Call.{Call}
+use Rattle.plain_volume.specs.declared.call.Call.TheVariants as call
+use Rattle.plain_volume.specs.declared.call.Reply.{Reply}
+use Rattle.ddpsh.specs.States.{State, reply_in}
 use Rattle.ddpsh.specs.Script.{Item, first_item}
-use Rattle.ddpsh.specs.Answers.{Answer, text_of}
-use Rattle.ddpsh.specs.Runs.{Entry, Served, Did, Broke, output_of, some_refused, answered_lines}
-use Rattle.ddpsh.specs.Saying.{IsKind}
+use Rattle.ddpsh.specs.Answers.{Answer, text_of, said, is_accepted, is_refused, is_exit, Comes, Starts}
+use Rattle.ddpsh.specs.Runs.{Entry, Made, Served, StayOpen, lets_go, calls_of, output_of, some_refused, answered_lines, acknowledged, one_if}
 use Rattle.ddpsh.specs.Told.{IsPut, IsPutInPart}
-use Rattle.ddpsh.specs.declared.input.Input.{Input}
 use Rattle.ddpsh.specs.declared.input.ScriptFault.{ScriptFault}
 use Rattle.ddpsh.specs.declared.input.ScriptFault.TheVariants as fault
 use Rattle.ddpsh.specs.declared.answers.Answered.{Answered}
 use Rattle.ddpsh.specs.declared.answers.Answered.TheVariants as answered
-use Rattle.ddpsh.specs.declared.serving.Stop.{Stop}
-use Rattle.ddpsh.specs.declared.serving.Stop.TheVariants as stop
+use Rattle.ddpsh.specs.declared.stops.SessionFault.{SessionFault}
+use Rattle.ddpsh.specs.declared.stops.SessionFault.TheVariants as stop
 use Rattle.ddpsh.specs.declared.ending.End.{End}
 use Rattle.ddpsh.specs.declared.ending.End.TheVariants as ends
 use Rattle.ddpsh.specs.declared.ending.Ran.{Ran}
 
--- the item was answered, and its answer, of this kind, was written
-pub record IsWritten (item : Item) (v w : State) (kind : Answered) (before held : Option (List ℕ)) : Type 0 where
+-- The line in which a run ended: its calls, and how many calls were made by each acknowledgement that it gave, where n
+-- were made before it; what the sink held before it, and holds now.
+pub record Last : Type 0 where
+  pub calls : List (Call × Reply)
+  pub acks : List ℕ
+  pub before : Option (List ℕ)
+  pub held : Option (List ℕ)
+
+-- no line was begun
+abbrev pub IsNone : Last → Type 0
+IsNone last = (last.calls ≡ []) × (last.acks ≡ []) × (last.held ≡ last.before)
+
+-- The script was read to its end, and all was durable when the volume was let go.
+pub record IsOver (rest : List ℕ) (stage : State) (n : ℕ) (last : Last) : Type 0 where
+  pub read : rest ≡ []
   pub answer : Answer
-  pub did : Did item v w answer
-  pub kind_is : IsKind kind answer
-  pub put : IsPut before (text_of answer) held
+  pub flushed : said (reply_in stage call.Flush) ≡ Some answer
+  pub accepted : is_accepted answer ≡ true
+  pub no_call : last.calls ≡ []
+  pub acks : last.acks ≡ n ∷ []
+  pub held : last.held ≡ last.before
 
--- the item was answered, and a front of its answer was written
-pub record WroteInPart (item : Item) (v w : State) (before held : Option (List ℕ)) : Type 0 where
+-- the script was read to its end, and what is not durable yet could not be made so
+pub record IsWorn (rest : List ℕ) (stage : State) (last : Last) : Type 0 where
+  pub read : rest ≡ []
   pub answer : Answer
-  pub did : Did item v w answer
-  pub put : IsPutInPart before (text_of answer) held
+  pub flushed : said (reply_in stage call.Flush) ≡ Some answer
+  pub refused : is_refused answer ≡ true
+  pub none : IsNone last
 
--- where an item ends the run
-abbrev pub Stopped : Stop → Item → State → State → Option (List ℕ) → Option (List ℕ) → Type 0
-Stopped stop.Memory item v w before held = Broke item v w × (held ≡ before)
-Stopped stop.Sink item v w before held = WroteInPart item v w before held
+-- a line was served, and a front of its answer was written; that of an `exit` acknowledges all the same
+pub record IsCutOff (item : Item) (stage now : State) (n : ℕ) (last : Last) : Type 0 where
+  pub answer : Answer
+  pub comes : Comes item stage last.calls answer now
+  pub put : IsPutInPart last.before (text_of answer) last.held
+  pub acks : last.acks ≡ one_if (is_exit item && is_accepted answer) (n + length last.calls)
 
--- how a run ends, from the state of the stage and what the sink held then
-abbrev pub Ends : End → List ℕ → State → State → Option (List ℕ) → Option (List ℕ) → Type 0
-Ends ends.Over rest stage now mid held = (rest ≡ []) × (now ≡ stage) × (held ≡ mid)
-Ends ends.Sink rest stage now mid held = WroteInPart (first_item rest) stage now mid held
-Ends ends.Memory rest stage now mid held = Broke (first_item rest) stage now × (held ≡ mid)
-Ends ends.Source rest stage now mid held = (now ≡ stage) × (held ≡ mid)
-Ends ends.TooLong rest stage now mid held = (now ≡ stage) × (held ≡ mid)
+-- a line was begun and prints nothing, or the end of the script was reached, or nothing was begun
+pub record IsBegun (item : Item) (stage : State) (last : Last) : Type 0 where
+  pub starts : Starts item stage last.calls
+  pub acks : last.acks ≡ []
+  pub held : last.held ≡ last.before
 
--- a run that is not over: the items so far are answered, and the rest is left
-pub record Progress (opening now : State) (script : List ℕ) (input : Input) (source before held : Option (List ℕ))
-    (refused : Bool) (lines : ℕ) : Type 0 where
-  pub entries : List Entry
-  pub rest : List ℕ
+-- how a run ends, from the state of the stage on, after n calls
+abbrev pub Ends : End → List ℕ → State → State → ℕ → Last → Type 0
+Ends ends.Over rest stage now n last = IsOver rest stage n last
+Ends ends.Worn rest stage now n last = IsWorn rest stage last
+Ends ends.Exit rest stage now n last = IsNone last
+Ends ends.Device rest stage now n last = IsBegun (first_item rest) stage last
+Ends ends.Memory rest stage now n last = IsBegun (first_item rest) stage last
+Ends ends.Sink rest stage now n last = IsCutOff (first_item rest) stage now n last
+Ends ends.Source rest stage now n last = IsNone last
+Ends ends.TooLong rest stage now n last = IsNone last
+Ends (ends.Refused fault) rest stage now n last = ⊥
+
+-- an `exit` that let the volume go stands last, and where the run ended in it
+abbrev pub StaysOpenUntil : End → List Entry → Type 0
+StaysOpenUntil ends.Exit es =
+    (front : List Entry) × (last : Entry) × (es ≡ front ++ last ∷ []) × StayOpen front × (lets_go last ≡ true)
+StaysOpenUntil other es = StayOpen es
+
+-- what was answered so far, with what was printed and what is told of it
+pub record AnsweredSo (opening now : State) (script : List ℕ) (before held : Option (List ℕ)) (refused : Bool)
+    (lines : ℕ) (entries : List Entry) (rest : List ℕ) : Type 0 where
   pub served : Served opening script entries rest now
-  pub left : IsLeft input source (length script) rest
   pub output : IsPut before (output_of entries) held
   pub refusals : refused ≡ some_refused entries
   pub counts : lines ≡ answered_lines entries
 
--- the first items of the script were answered, each answer was written, and so the run ended
-pub record RunOf (opening now : State) (script : List ℕ) (before held : Option (List ℕ)) (ran : Ran) : Type 0 where
+-- The first items of the script were answered, each answer was written, and so the run ended. `calls` are the calls of
+-- these and of the line in which it ended, and `acks` tells how many calls were made by each acknowledgement.
+pub record RunOf (opening now : State) (script : List ℕ) (before held : Option (List ℕ)) (ran : Ran)
+    (calls : List (Call × Reply)) (acks : List ℕ) : Type 0 where
   pub entries : List Entry
   pub rest : List ℕ
   pub stage : State
-  pub mid : Option (List ℕ)
-  pub served : Served opening script entries rest stage
-  pub output : IsPut before (output_of entries) mid
-  pub ending : Ends ran.end rest stage now mid held
-  pub refusals : ran.refused ≡ some_refused entries
-  pub counts : ran.lines ≡ answered_lines entries
+  pub last : Last
+  pub so : AnsweredSo opening stage script before last.before ran.refused ran.lines entries rest
+  pub made : Made stage now last.calls
+  pub ending : Ends ran.end rest stage now (length (calls_of entries)) last
+  pub held_is : held ≡ last.held
+  pub goes : StaysOpenUntil ran.end entries
+  pub calls_are : calls ≡ calls_of entries ++ last.calls
+  pub acks_are : acks ≡ acknowledged 0 entries ++ last.acks
 
 -- what the loop keeps of each line
 
-abbrev pub stop_end : Stop → End
+abbrev pub stop_end : SessionFault → End
+stop_end stop.Device = ends.Device
 stop_end stop.Memory = ends.Memory
 stop_end stop.Sink = ends.Sink
 
@@ -80,10 +117,13 @@ fault_end fault.Memory = ends.Memory
 
 abbrev pub kind_refused : Answered → Bool
 kind_refused answered.Refused = true
-kind_refused answered.Ok = false
-kind_refused answered.Silent = false
+kind_refused other = false
 
 abbrev pub kind_counted : Answered → ℕ
-kind_counted answered.Refused = 1
-kind_counted answered.Ok = 1
 kind_counted answered.Silent = 0
+kind_counted other = 1
+
+-- the end of a script that was read to its end, by how the session ended
+abbrev pub over_end : Answered → End
+over_end answered.Refused = ends.Worn
+over_end other = ends.Over

@@ -1,3 +1,4 @@
+pub mod Acks
 pub mod Input
 pub mod Script
 pub mod Reading
@@ -6,8 +7,15 @@ pub mod Answers
 pub mod Runs
 pub mod Told
 pub mod Saying
+pub mod Listing
+pub mod Crashes
+pub mod Served
+pub mod Clocks
+pub mod Sessions
 pub mod Ends
+pub mod Steps
 pub mod Outcomes
 pub mod Commands
+pub mod Opens
 pub mod Whole
 pub mod Laws

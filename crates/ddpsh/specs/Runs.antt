@@ -1,11 +1,12 @@
 -- Runs over a script.
-use Rattle.std.specs.Prelude.{◌≡◌, ◌+◌, ℕ, Bool, false, List, [], ◌∷◌, ◌++◌, ◌||◌, cond}
+use Rattle.std.specs.Prelude.{◌≡◌, ◌+◌, ◌&&◌, ℕ, Bool, false, List, [], ◌∷◌, ◌++◌, ◌||◌, cond, length}
+use Rattle.std.specs.List.{list_any}
 use Rattle.plain_volume.specs.Step.{Legal, replay}
 use Rattle.plain_volume.specs.declared.call.Call.{Call}
 use Rattle.plain_volume.specs.declared.call.Reply.{Reply}
 use Rattle.ddpsh.specs.States.{State}
 use Rattle.ddpsh.specs.Script.{Item, BeginsWith}
-use Rattle.ddpsh.specs.Answers.{Answer, text_of, is_refused, is_answered, Comes, Starts}
+use Rattle.ddpsh.specs.Answers.{Answer, text_of, is_refused, is_answered, is_accepted, is_durable, is_exit, Comes}
 
 -- an item that was answered: its calls with their replies, and its answer
 pub record Entry : Type 0 where
@@ -44,24 +45,35 @@ abbrev pub answered_lines : List Entry → ℕ
 answered_lines [] = 0
 answered_lines (e ∷ es) = cond (is_answered e.answer) 1 0 + answered_lines es
 
+-- an `exit` that let the volume go
+abbrev pub lets_go : Entry → Bool
+lets_go e = is_exit e.item && is_accepted e.answer
+
+-- none of these let the volume go
+abbrev pub StayOpen : List Entry → Type 0
+StayOpen es = list_any lets_go es ≡ false
+
+-- a `flush` or an `exit` that was answered `ok`
+abbrev pub acknowledges : Item → Answer → Bool
+acknowledges item answer = is_durable item && is_accepted answer
+
+abbrev pub one_if : Bool → ℕ → List ℕ
+one_if given n = cond given (n ∷ []) []
+
+-- how many calls were made by each acknowledgement that these gave, where n were made before them
+abbrev pub acknowledged : ℕ → List Entry → List ℕ
+acknowledged n [] = []
+acknowledged n (e ∷ es) =
+    one_if (acknowledges e.item e.answer) (n + length e.calls) ++ acknowledged (n + length e.calls) es
+
+-- calls with lawful replies, from one state to the next
+pub record Made (v w : State) (calls : List (Call × Reply)) : Type 0 where
+  pub legal : Legal v.volume calls
+  pub now : w.volume ≡ replay v.volume calls
+
 -- these are the first items of the script with their answers, the rest stands behind them, and they leave this state
 pub record Served (opening : State) (script : List ℕ) (es : List Entry) (rest : List ℕ) (now : State) : Type 0 where
   pub items : BeginsWith (items_of es) script rest
   pub answers : AreAnswered opening es
   pub state : now ≡ left_by opening es
-  pub legal : Legal opening.volume (calls_of es)
-  pub volume : now.volume ≡ replay opening.volume (calls_of es)
-
--- an item was answered so, from one state to the next
-pub record Did (item : Item) (v w : State) (answer : Answer) : Type 0 where
-  pub calls : List (Call × Reply)
-  pub comes : Comes item v calls answer w
-  pub legal : Legal v.volume calls
-  pub now : w.volume ≡ replay v.volume calls
-
--- an item was begun, and the run ends there
-pub record Broke (item : Item) (v w : State) : Type 0 where
-  pub calls : List (Call × Reply)
-  pub starts : Starts item v calls
-  pub legal : Legal v.volume calls
-  pub now : w.volume ≡ replay v.volume calls
+  pub made : Made opening now (calls_of es)

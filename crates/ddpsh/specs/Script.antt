@@ -1,7 +1,7 @@
 -- How a script splits into items: a line with what belongs to it.
 use Rattle.std.specs.Prelude.{◌≡◌, ◌<◌, ◌+◌, ◌-◌, ◌==◌, ℕ, Bool, true, cond, nat_lt, List, [], ◌∷◌, length, take, drop, slice_index, Option, Some, None, Result, Ok, Err}
 use Rattle.std.specs.List.{list_any}
-use Rattle.cmdlet_line.specs.Lines.{Ask, Silent, Create, Write, Read, Refusal, line_of}
+use Rattle.cmdlet_line.specs.Lines.{Ask, Write, Refusal, line_of}
 
 -- the session's volume text: `D:`
 abbrev pub volume_text : List ℕ
@@ -34,10 +34,8 @@ asked line = line_of volume_text line
 
 -- how many bytes of payload a line takes
 abbrev pub wants : Ask → Option ℕ
-wants Silent = None
-wants (Create name) = None
 wants (Write name at count) = Some count
-wants (Read name at count) = None
+wants other = None
 
 -- a refused line takes none
 abbrev pub wanted : Result Ask Refusal → Option ℕ

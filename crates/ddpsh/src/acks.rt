@@ -1,7 +1,7 @@
 // Acknowledgements of durable calls.
-ghost use Rattle.std.specs.Prelude.{◌≡◌, [], slice_get, option_map};
+ghost use Rattle.std.specs.Prelude.{◌≡◌, ◌++◌, ◌<◌, ◌≤◌, slice_get, option_map, vec_len, vec_capacity};
+ghost use Rattle.ddpsh.specs.Acks.{ack_list};
 
-use std::alloc::Global;
 use std::marker::Model;
 
 /// A moment of the disk at which all calls so far, refused ones among them, were durable, and how many these were.
@@ -27,12 +27,10 @@ impl Model for Acks {
 }
 
 impl Acks {
-    pub(crate) fn new(alloc: Global) -> Acks
-        ensures { result ≡ [] }
+    pub(crate) fn from_list(list: Vec<Ack>) -> Acks
+        ensures { result ≡ list.items }
     {
-        Acks {
-            list: Vec::new(alloc),
-        }
+        Acks { list }
     }
 
     /// The k-th, counted from 0, or None behind the last.
@@ -40,5 +38,15 @@ impl Acks {
         ensures { option_map (λ ack. ack.now) result ≡ slice_get self.now k }
     {
         self.list.get(k)
+    }
+}
+
+/// Keeps an acknowledgement, if there is one. Room was made for it.
+pub(crate) fn keep(acks: &mut Vec<Ack>, ack: Option<Ack>)
+    requires room { vec_len acks.old < vec_capacity acks.old }
+    ensures { acks.new.items ≡ acks.old.items ++ ack_list ack }
+{
+    if let Some(ack) = ack {
+        acks.push(ack).unwrap();
     }
 }

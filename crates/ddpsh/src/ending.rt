@@ -1,14 +1,24 @@
 // How a run ends.
 ghost use Rattle.std.specs.Prelude.{◌≡◌};
-ghost use Rattle.ddpsh.specs.Outcomes.{status_of, last_line};
+ghost use Rattle.ddpsh.specs.Outcomes.{status_of};
+
+use volume_tables::MountFault;
 
 /// How a run ends.
 #[derive(Clone, Copy, Debug, PartialEq, Eq)]
 pub(crate) enum End {
-    /// The script was read to its end.
+    /// The script was read to its end, and the volume was let go.
     Over,
+    /// The script was read to its end, and what was not durable could not be made so: an epoch is wanting.
+    Worn,
+    /// An `exit` let the volume go.
+    Exit,
+    /// The disk or the clock failed.
+    Device,
     /// Memory was wanting.
     Memory,
+    /// No volume was opened.
+    Refused(MountFault),
     /// The sink failed.
     Sink,
     /// The source failed.
@@ -41,24 +51,13 @@ impl Ran {
         ensures { result ≡ status_of self.now.end self.now.refused }
     {
         match self.end {
-            End::Over => { if self.refused { 1 } else { 0 } }
+            End::Over | End::Exit => { if self.refused { 1 } else { 0 } }
+            End::Worn => 1,
+            End::Device => 3,
             End::Memory => 4,
+            End::Refused(_) => 5,
             End::Sink => 6,
-            End::Source => 7,
-            End::TooLong => 7,
-        }
-    }
-
-    /// What is printed last for an end that is no end of the script.
-    pub(crate) fn last_line(&self) -> &'static [u8]
-        ensures { result.now ≡ last_line self.now.end }
-    {
-        match self.end {
-            End::Over => b"",
-            End::Memory => b"fault memory\n",
-            End::Sink => b"",
-            End::Source => b"fault source\n",
-            End::TooLong => b"fault script too long\n",
+            End::Source | End::TooLong => 7,
         }
     }
 }

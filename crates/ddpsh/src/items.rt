@@ -7,9 +7,9 @@ ghost use Rattle.ddpsh.specs.Script.{asked, wanted};
 ghost use Rattle.ddpsh.specs.Reading.{IsItem};
 
 use crate::input::{Input, ScriptFault};
+use crate::limits::VOLUME;
 use crate::lines::read_line;
 use crate::payload::read_payload;
-use crate::session::VOLUME;
 use cmdlet_line::{Line, parse};
 use vdisk::Source;
 
@@ -19,10 +19,8 @@ fn payload_count(line: &[u8]) -> Option<u64>
 {
     match parse(line, VOLUME) {
         Err(_) => None,
-        Ok(Line::Silent) => None,
-        Ok(Line::Create(_)) => None,
         Ok(Line::Write(_, _, count)) => Some(count),
-        Ok(Line::Read(_, _, _)) => None,
+        Ok(_) => None,
     }
 }
 

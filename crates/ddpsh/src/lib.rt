@@ -3,6 +3,7 @@
 
 mod acks;
 mod answers;
+mod calls;
 mod commands;
 mod ending;
 mod input;
@@ -10,15 +11,21 @@ mod items;
 mod laws;
 mod limits;
 mod lines;
+mod listing;
+mod opening;
 mod payload;
 mod put;
 mod serving;
 mod session;
+mod stops;
 #[cfg(test)]
 mod tests;
 mod top;
 
 pub use acks::{Ack, Acks};
+pub use answers::Answered;
 pub use laws::{items_have_one_answer, scripts_have_one_output};
-pub use limits::{FEWEST_CLUSTERS, MOST_AHEAD, MOST_CLUSTERS, MOST_SCRIPT};
+pub use limits::{FEWEST_CLUSTERS, MOST_AHEAD, MOST_CALLS_OF_A_LINE, MOST_CLUSTERS, MOST_SCRIPT};
+pub use session::Session;
+pub use stops::SessionFault;
 pub use top::{Outcome, run};

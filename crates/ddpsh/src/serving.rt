@@ -1,38 +1,36 @@
 // The loop over a script.
-ghost use Rattle.std.specs.Prelude.{◌≡◌, ◌≤◌, ◌<◌, ◌^◌, ◌||◌, ℕ, List, Some, [], length, IfOk, IfErr, IsErrOf, vec_capacity};
+ghost use Rattle.std.specs.Prelude.{◌≡◌, ◌≤◌, ◌<◌, ◌⊎◌, ◌^◌, ◌||◌, false, ℕ, List, Some, [], length, IfOk, IsErrOf, vec_capacity};
 ghost use Rattle.vdisk.specs.Causes.{Rose};
+ghost use Rattle.cmdlet_line.specs.Lines.{line_of};
 ghost use Rattle.ddpsh.specs.declared.limits.TheConstants.{MOST_SCRIPT, MOST_KEPT};
 ghost use Rattle.ddpsh.specs.Input.{ahead};
-ghost use Rattle.ddpsh.specs.Script.{asked, item_of};
-ghost use Rattle.ddpsh.specs.Answers.{text_of};
-ghost use Rattle.ddpsh.specs.Saying.{state_of};
-ghost use Rattle.ddpsh.specs.Told.{IsPut};
-ghost use Rattle.ddpsh.specs.Ends.{IsWritten, Stopped, RunOf, stop_end, fault_end, kind_refused, kind_counted};
+ghost use Rattle.ddpsh.specs.Script.{item_of, volume_text};
+ghost use Rattle.volume_core.specs.Volumes.{disk_of, view_now, IsKept};
+ghost use Rattle.ddpsh.specs.Served.{StaysSame};
+ghost use Rattle.ddpsh.specs.Sessions.{is_over, is_last};
+ghost use Rattle.plain_volume.specs.Volume.{Volume as PlainVolume};
+ghost use Rattle.ddpsh.specs.Ends.{stop_end, fault_end, kind_refused, kind_counted};
+ghost use Rattle.ddpsh.specs.Steps.{session_end, IsSessionEnd, DoesStep, DoesEndStep, SessionRun};
+ghost use Rattle.volume_inside.specs.declared.mount_fault.MountFault.{MountFault};
 
+use crate::acks::{Ack, keep};
 use crate::answers::Answered;
 use crate::ending::{End, Ran};
 use crate::input::{Input, ScriptFault};
 use crate::items::read_item;
 use crate::limits::MOST_KEPT;
-use crate::put::put_all;
-use crate::session::answer;
+use crate::session::Session;
+use crate::stops::SessionFault;
 use std::alloc::{AllocError, Global};
-use vdisk::{Sink, Source};
-use volume_files::Files;
+use vdisk::{Clock, Disk, Sink, Source};
 
-/// Why a line ends the run.
-#[derive(Clone, Copy)]
-pub(crate) enum Stop {
-    Memory,
-    Sink,
-}
-
-fn end_of_stop(stop: Stop) -> End
+fn end_of_stop(stop: SessionFault) -> End
     ensures { result ≡ stop_end stop }
 {
     match stop {
-        Stop::Memory => End::Memory,
-        Stop::Sink => End::Sink,
+        SessionFault::Device => End::Device,
+        SessionFault::Memory => End::Memory,
+        SessionFault::Sink => End::Sink,
     }
 }
 
@@ -46,6 +44,17 @@ fn end_of_fault(fault: ScriptFault) -> End
     }
 }
 
+/// How a run ends whose script was read to its end, by how the session ended.
+fn end_of_session(ended: Result<Answered, SessionFault>) -> End
+    ensures { result ≡ session_end ended }
+{
+    match ended {
+        Ok(Answered::Refused) => End::Worn,
+        Ok(_) => End::Over,
+        Err(stop) => end_of_stop(stop),
+    }
+}
+
 fn is_refusal(refused: bool, answered: Answered) -> bool
     ensures { result ≡ (refused || kind_refused answered) }
 {
@@ -53,6 +62,19 @@ fn is_refusal(refused: bool, answered: Answered) -> bool
         Answered::Refused => true,
         Answered::Ok => refused,
         Answered::Silent => refused,
+        Answered::Exit => refused,
+    }
+}
+
+/// Whether no further line may come.
+fn is_last(answered: Answered) -> bool
+    ensures { result ≡ is_last answered }
+{
+    match answered {
+        Answered::Exit => true,
+        Answered::Ok => false,
+        Answered::Refused => false,
+        Answered::Silent => false,
     }
 }
 
@@ -64,33 +86,7 @@ fn counted(answered: Answered) -> u64
         Answered::Refused => 1,
         Answered::Ok => 1,
         Answered::Silent => 0,
-    }
-}
-
-/// Serves one line: its call is made, and its answer is written.
-fn serve_line<K: Sink>(
-    files: &mut Files,
-    line: &[u8],
-    behind: &[u8],
-    text: &mut Vec<u8>,
-    out: &mut K,
-) -> Result<Answered, Stop>
-    ensures done { IfOk result (λ a.
-        IsWritten (item_of (asked line.now) behind.now) (state_of files.old) (state_of files.new) a (K.held out.old)
-        (K.held out.new)) }
-    ensures stopped { IfErr result (λ stop.
-        Stopped stop (item_of (asked line.now) behind.now) (state_of files.old) (state_of files.new) (K.held out.old)
-        (K.held out.new)) }
-    ensures later { K.faults out.old ≤ K.faults out.new }
-    ensures sink { IsErrOf result Stop.Sink → Rose (K.faults out.old) (K.faults out.new) }
-{
-    let answered = match answer(files, line, behind, text) {
-        Ok(answered) => answered,
-        Err(_) => return Err(Stop::Memory),
-    };
-    match put_all(out, text) {
-        Ok(()) => Ok(answered),
-        Err(_) => Err(Stop::Sink),
+        Answered::Exit => 1,
     }
 }
 
@@ -103,44 +99,112 @@ fn rooms(alloc: Global) -> Result<(Input, Vec<u8>), AllocError>
     Ok((Input::new(alloc)?, Vec::with_capacity(alloc, MOST_KEPT)?))
 }
 
-/// Serves a script to its end.
-pub(crate) fn serve<S: Source, K: Sink>(
+/// Serves one line, and keeps what it acknowledges. Room for that is made before.
+fn serve_line<K: Sink, D: Disk, C: Clock>(
     alloc: Global,
-    files: &mut Files,
+    session: &mut Session<D>,
+    line: &[u8],
+    payload: &[u8],
+    out: &mut K,
+    clock: &mut C,
+    acks: &mut Vec<Ack>,
+) -> Result<Answered, SessionFault>
+    requires { is_over session.old ≡ false }
+    ensures told { (w : PlainVolume) → IsKept session.old.volume w →
+        DoesStep (item_of (line_of session.old.text line.now) payload.now) session.old session.new (K.held out.old) (K.held out.new) result acks.old.items acks.new.items }
+    ensures text { session.new.text ≡ session.old.text }
+    ensures same { StaysSame session.old.volume session.new.volume }
+    ensures runs { IfOk result (λ a. is_over session.new ≡ is_last a) }
+    ensures disk_later { (disk_of session.old.volume).faults ≤ (disk_of session.new.volume).faults }
+    ensures clock_later { C.faults clock.old ≤ C.faults clock.new }
+    ensures sink_later { K.faults out.old ≤ K.faults out.new }
+    ensures device { IsErrOf result SessionFault.Device →
+        Rose (disk_of session.old.volume).faults (disk_of session.new.volume).faults
+        ⊎ Rose (C.faults clock.old) (C.faults clock.new) }
+    ensures sink { IsErrOf result SessionFault.Sink → Rose (K.faults out.old) (K.faults out.new) }
+{
+    if acks.reserve(1).is_err() {
+        return Err(SessionFault::Memory);
+    }
+    let answered = session.line(alloc, line, payload, out, clock);
+    keep(acks, session.ack());
+    answered
+}
+
+/// Ends a session whose script is at its end, and keeps what that acknowledges. Room for that is made before.
+fn end_session<D: Disk>(session: &mut Session<D>, acks: &mut Vec<Ack>) -> End
+    requires { is_over session.old ≡ false }
+    ensures told { (w : PlainVolume) → IsKept session.old.volume w →
+        DoesEndStep session.old session.new result acks.old.items acks.new.items }
+    ensures same { StaysSame session.old.volume session.new.volume }
+    ensures disk_later { (disk_of session.old.volume).faults ≤ (disk_of session.new.volume).faults }
+    ensures device { result ≡ End.Device →
+        Rose (disk_of session.old.volume).faults (disk_of session.new.volume).faults }
+    ensures kinds { IsSessionEnd result }
+{
+    if acks.reserve(1).is_err() {
+        return End::Memory;
+    }
+    let ended = session.end();
+    keep(acks, session.ack());
+    end_of_session(ended)
+}
+
+/// Serves a script to its end, or to an `exit`. Answers how it ended, and what was acknowledged.
+pub(crate) fn serve<S: Source, K: Sink, D: Disk, C: Clock>(
+    alloc: Global,
+    session: &mut Session<D>,
     script: &mut S,
     out: &mut K,
-) -> Ran
-    ensures run { (s : List ℕ) → S.left script.old ≡ Some s →
-        RunOf (state_of files.old) (state_of files.new) s (K.held out.old) (K.held out.new) result }
-    ensures sink { result.end ≡ End.Sink → Rose (K.faults out.old) (K.faults out.new) }
-    ensures source { result.end ≡ End.Source → Rose (S.faults script.old) (S.faults script.new) }
-    ensures too_long { (s : List ℕ) → S.left script.old ≡ Some s → result.end ≡ End.TooLong → MOST_SCRIPT < length s }
-    ensures later { K.faults out.old ≤ K.faults out.new }
-    ensures later_source { S.faults script.old ≤ S.faults script.new }
+    clock: &mut C,
+) -> (Ran, Vec<Ack>)
+    requires running { is_over session.old ≡ false }
+    requires fresh { session.old.calls ≡ 0 }
+    requires text { session.old.text ≡ volume_text }
+    ensures run { IsKept session.old.volume (view_now session.old.volume) → (s : List ℕ) →
+        S.left script.old ≡ Some s → SessionRun session.old session.new s (K.held out.old) (K.held out.new) result.0
+        result.1.items }
+    ensures same { StaysSame session.old.volume session.new.volume }
+    ensures disk_later { (disk_of session.old.volume).faults ≤ (disk_of session.new.volume).faults }
+    ensures clock_later { C.faults clock.old ≤ C.faults clock.new }
+    ensures sink_later { K.faults out.old ≤ K.faults out.new }
+    ensures source_later { S.faults script.old ≤ S.faults script.new }
+    ensures device { result.0.end ≡ End.Device →
+        Rose (disk_of session.old.volume).faults (disk_of session.new.volume).faults
+        ⊎ Rose (C.faults clock.old) (C.faults clock.new) }
+    ensures sink { result.0.end ≡ End.Sink → Rose (K.faults out.old) (K.faults out.new) }
+    ensures source { result.0.end ≡ End.Source → Rose (S.faults script.old) (S.faults script.new) }
+    ensures too_long { (s : List ℕ) → S.left script.old ≡ Some s → result.0.end ≡ End.TooLong → MOST_SCRIPT < length s }
+    ensures opened { (fault : MountFault) → result.0.end ≡ End.Refused fault → ⊥ }
 {
     let mut refused = false;
     let mut lines = 0u64;
+    let mut acks = Vec::new(alloc);
     let (mut input, mut line) = match rooms(alloc) {
         Ok(rooms) => rooms,
-        Err(_) => return Ran::new(End::Memory, refused, lines),
+        Err(_) => return (Ran::new(End::Memory, refused, lines), acks),
     };
     let mut payload = Vec::new(alloc);
-    let mut text = Vec::new(alloc);
     'items: loop {
         match read_item(script, &mut input, &mut line, &mut payload) {
-            Err(fault) => return Ran::new(end_of_fault(fault), refused, lines),
+            Err(fault) => return (Ran::new(end_of_fault(fault), refused, lines), acks),
             Ok(some) => {
                 if !some {
-                    return Ran::new(End::Over, refused, lines);
+                    let end = end_session(session, &mut acks);
+                    return (Ran::new(end, refused, lines), acks);
                 }
             }
         }
-        match serve_line(files, &line, &payload, &mut text, out) {
-            Err(stop) => return Ran::new(end_of_stop(stop), refused, lines),
+        match serve_line(alloc, session, &line, &payload, out, clock, &mut acks) {
+            Err(stop) => return (Ran::new(end_of_stop(stop), refused, lines), acks),
             Ok(answered) => {
                 refused = is_refusal(refused, answered);
                 lines += counted(answered);
+                if is_last(answered) {
+                    return (Ran::new(End::Exit, refused, lines), acks);
+                }
             }
         }
+        session.round().unwrap();
     }
 }

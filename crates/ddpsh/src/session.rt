@@ -1,124 +1,264 @@
-// One line with what stands behind it, served by the files of a volume.
-ghost use Rattle.std.specs.Prelude.{◌≡◌, ◌++◌, ◌∷◌, [], ◌≤◌, ◌+◌, ℕ, List, Some, length, IfOk, OnErr, codes};
-ghost use Rattle.cmdlet_line.specs.Lines.{Create, Write, Read};
-ghost use Rattle.plain_volume.specs.Replies.{done_reply, bytes_reply};
-ghost use Rattle.ddpsh.specs.Script.{asked, item_of, with_payload, Bare, Paid};
-ghost use Rattle.ddpsh.specs.Answers.{Answer, said};
-ghost use Rattle.ddpsh.specs.Runs.{Broke};
-ghost use Rattle.ddpsh.specs.Saying.{IsSaid, IsServed, state_of};
+// A session: lines served one by one over a mounted volume.
+ghost use Rattle.std.specs.Prelude.{◌≡◌, ◌≤◌, ◌⊎◌, false, true, ℕ, None, Some, Result, IfOk, OnOk, IsErrOf, IsTrue, IsOk};
+ghost use Rattle.vdisk.specs.Causes.{Rose, HasCause};
+ghost use Rattle.vdisk.specs.declared.disk.Failed.{Failed};
+ghost use Rattle.cmdlet_line.specs.Lines.{line_of};
+ghost use Rattle.ddpsh.specs.Script.{item_of};
+ghost use Rattle.plain_volume.specs.Volume.{Volume as PlainVolume};
+ghost use Rattle.volume_core.specs.Volumes.{device_of, disk_of, stopped, IsKept};
+ghost use Rattle.ddpsh.specs.Served.{asked_as, StaysSame};
+ghost use Rattle.ddpsh.specs.Clocks.{IsRead};
+ghost use Rattle.ddpsh.specs.Saying.{is_flushed, ended_by};
 
-use crate::answers::{Answered, accepted, read_room, refused, refused_call, refused_line, silent};
-use crate::payload::is_spoilt_at;
-use cmdlet_line::{Line, parse};
-use plain_volume::{Fault, own_replies_are_steps};
-use std::alloc::AllocError;
-use volume_files::Files;
+use crate::acks::Ack;
+use crate::answers::Answered;
+use crate::calls::answer;
+use crate::put::put_all;
+use crate::stops::SessionFault;
+use cmdlet_line::{Line, LineFault, parse};
+use plain_volume::Fault;
+use std::alloc::Global;
+use vdisk::{Clock, Disk, Failed, Sink};
+use volume_core::Volume;
 
-/// The session's volume text.
-pub(crate) const VOLUME: [u8; 2] = [b'D', b':'];
+/// A mounted volume with what a script over it needs: its volume text, and how many calls were made.
+#[derive(Drop)]
+pub struct Session<D: Disk> {
+    volume: Volume<D>,
+    text: [u8; 2],
+    turns: u32,
+    cores: u32,
+    /// The user calls made so far, refused ones among them.
+    calls: u64,
+    /// The last reading of the clock, 0 before the first.
+    second: u64,
+    /// What the last line acknowledged, or the end of the script.
+    ack: Option<Ack>,
+    /// Whether the volume was let go, or its script is at its end.
+    over: bool,
+}
 
-/// The answer to a call that has nothing to tell but its refusal.
-fn done(text: &mut Vec<u8>, given: Result<(), Fault>) -> Result<Answered, AllocError>
-    ensures { IfOk result (λ a.
-        (answer : Answer) × (said (done_reply given) ≡ Some answer) × IsSaid a text.new.items answer) }
+/// Reads the clock, but for a line that asks nothing: that leaves the last reading.
+fn read_clock<C: Clock>(
+    clock: &mut C,
+    asked: Result<Line, LineFault>,
+    second: u64,
+) -> Result<u64, Failed>
+    ensures read { IsRead (asked_as asked.entry) (C.answers clock.old) (C.answers clock.new) result }
+    ensures cause { HasCause (C.faults clock.old) (C.faults clock.new) result }
 {
-    match given {
-        Ok(()) => accepted(text),
-        Err(fault) => refused_call(text, fault),
+    match asked {
+        Ok(Line::Silent) => Ok(second),
+        _ => clock.now(),
     }
 }
 
-fn create(files: &mut Files, name: &[u8], text: &mut Vec<u8>) -> Result<Answered, AllocError>
-    ensures ok { IfOk result (λ a. IsServed (Bare (Create name.now)) files.old files.new a text.new.items) }
-    ensures err { OnErr result (Broke (Bare (Create name.now)) (state_of files.old) (state_of files.new)) }
+/// Whether the line is a `flush` that was answered `ok`.
+fn is_flushed(asked: Result<Line, LineFault>, answered: Answered) -> bool
+    ensures { result ≡ is_flushed (asked_as asked.entry) answered }
 {
-    own_replies_are_steps();
-    let given = files.create(name);
-    done(text, given)
-}
-
-fn write(
-    files: &mut Files,
-    name: &[u8],
-    at: u64,
-    count: u64,
-    payload: &[u8],
-    text: &mut Vec<u8>,
-) -> Result<Answered, AllocError>
-    ensures ok { IfOk result (λ a.
-        IsServed (Paid (Write name.now at count) payload.now) files.old files.new a text.new.items) }
-    ensures err { OnErr result
-        (Broke (Paid (Write name.now at count) payload.now) (state_of files.old) (state_of files.new)) }
-{
-    own_replies_are_steps();
-    let given = files.write(name, at, payload);
-    done(text, given)
-}
-
-/// A `write` line with what stands behind it, up to the byte in the newline's place.
-fn write_line(
-    files: &mut Files,
-    name: &[u8],
-    at: u64,
-    count: u64,
-    behind: &[u8],
-    text: &mut Vec<u8>,
-) -> Result<Answered, AllocError>
-    ensures ok { IfOk result (λ a.
-        IsServed (with_payload (Write name.now at count) behind.now (Some count)) files.old files.new a
-        text.new.items) }
-    ensures err { OnErr result
-        (Broke (with_payload (Write name.now at count) behind.now (Some count)) (state_of files.old)
-        (state_of files.new)) }
-{
-    if (behind.len() as u64) < count {
-        return refused(text, b" Cut", b"");
+    match asked {
+        Ok(Line::Flush) => answered == Answered::Ok,
+        _ => false,
     }
-    if is_spoilt_at(behind, count) {
-        return refused(text, b" PayloadEnd", b"");
-    }
-    write(files, name, at, count, &behind[..count as usize], text)
 }
 
-/// The bytes are read straight into their place in the answer.
-fn read(
-    files: &Files,
-    name: &[u8],
-    at: u64,
-    count: u64,
-    text: &mut Vec<u8>,
-) -> Result<Answered, AllocError>
-    ensures ok { IfOk result (λ a. IsServed (Bare (Read name.now at count)) files.now files.now a text.new.items) }
-    ensures err { OnErr result (Broke (Bare (Read name.now at count)) (state_of files.now) (state_of files.now)) }
+/// How a session ends where its last flush is refused.
+fn ended_by(fault: Fault) -> Result<Answered, SessionFault>
+    ensures { result ≡ ended_by fault }
 {
-    own_replies_are_steps();
-    let place = read_room(text, count)?;
-    match files.read_into(name, at, &mut text[place..]) {
-        Ok(()) => {
-            text.extend_from_slice(b"\n")?;
-            Ok(Answered::Ok)
+    match fault {
+        Fault::Failed => Err(SessionFault::Device),
+        Fault::Memory => Err(SessionFault::Memory),
+        _ => Ok(Answered::Refused),
+    }
+}
+
+impl<D: Disk> Session<D> {
+    ghost use Rattle.ddpsh.specs.Sessions.{is_over, is_last, is_volume_text, ack_now, let_go, acknowledge, HasCome, IsSameBeside, DoesLine, DoesEnd};
+
+    /// A session over a volume on which no job was started since its mount or format. The text is a letter and a
+    /// colon. So many turns of each running job follow an answered line, and batches of jobs are worked on by so many
+    /// threads; in this version there are no jobs.
+    pub fn new(volume: Volume<D>, text: [u8; 2], turns: u32, cores: u32) -> Session<D>
+        requires { IsTrue (is_volume_text text) }
+        ensures volume { result.volume ≡ volume }
+        ensures text { result.text ≡ text }
+        ensures calls { result.calls ≡ 0 }
+        ensures ack { result.ack ≡ None }
+        ensures over { is_over result ≡ stopped volume }
+    {
+        Session {
+            volume,
+            text,
+            turns,
+            cores,
+            calls: 0,
+            second: 0,
+            ack: None,
+            over: false,
         }
-        Err(fault) => refused_call(text, fault),
     }
-}
 
-/// Serves a line with what stands behind it up to the byte in its newline's place, and makes the text of its answer.
-/// It is refused where memory is wanting.
-pub(crate) fn answer(
-    files: &mut Files,
-    line: &[u8],
-    behind: &[u8],
-    text: &mut Vec<u8>,
-) -> Result<Answered, AllocError>
-    ensures ok { IfOk result (λ a.
-        IsServed (item_of (asked line.now) behind.now) files.old files.new a text.new.items) }
-    ensures err { OnErr result (Broke (item_of (asked line.now) behind.now) (state_of files.old) (state_of files.new)) }
-{
-    match parse(line, VOLUME) {
-        Err(fault) => refused_line(text, fault),
-        Ok(Line::Silent) => Ok(silent(text)),
-        Ok(Line::Create(name)) => create(files, name, text),
-        Ok(Line::Write(name, at, count)) => write_line(files, name, at, count, behind, text),
-        Ok(Line::Read(name, at, count)) => read(files, name, at, count, text),
+    /// Whether no further line may come: after an `exit` that let the volume go, after `end`, and where a write or a
+    /// sync of the disk has failed.
+    pub fn is_over(&self) -> bool
+        ensures { result ≡ is_over self.now }
+    {
+        self.over || self.volume.is_stopped()
+    }
+
+    /// What the last line, or the end, acknowledged: None where it was no `flush` that was answered `ok`, and let no
+    /// volume go.
+    pub fn ack(&self) -> Option<Ack>
+        ensures { result ≡ self.now.ack }
+    {
+        self.ack
+    }
+
+    /// The disk's moment now, and the number of calls so far.
+    fn ack_now(&self) -> Ack
+        ensures { result ≡ ack_now self.now }
+    {
+        Ack {
+            moment: self.volume.moment(),
+            calls: self.calls,
+        }
+    }
+
+    /// Hands the disk back, with whatever is on it.
+    pub fn into_disk(self) -> D
+        ensures { result ≡ device_of self.volume }
+    {
+        self.volume.into_disk()
+    }
+
+    /// After an `exit` that made all durable the session is over, and that is acknowledged.
+    fn let_go(&mut self, answered: Answered)
+        ensures { self.new ≡ let_go answered self.old }
+    {
+        if answered == Answered::Exit {
+            self.over = true;
+            self.ack = Some(self.ack_now());
+        }
+    }
+
+    /// Acknowledges all calls so far, where they are durable.
+    fn acknowledge(&mut self, durable: bool)
+        ensures { self.new ≡ acknowledge durable self.old }
+    {
+        if durable {
+            self.ack = Some(self.ack_now());
+        }
+    }
+
+    /// Serves what a line asks, and makes the text of its answer.
+    fn attempt<C: Clock>(
+        &mut self,
+        alloc: Global,
+        asked: Result<Line, LineFault>,
+        payload: &[u8],
+        text: &mut Vec<u8>,
+        clock: &mut C,
+    ) -> Result<Answered, SessionFault>
+        requires { stopped self.old.volume ≡ false }
+        ensures told { (w : PlainVolume) → IsKept self.old.volume w →
+            HasCome (item_of (asked_as asked.entry) payload.now) self.old self.new result text.new.items }
+        ensures rest { IsSameBeside self.old self.new }
+        ensures read { (second : Result ℕ Failed)
+            × IsRead (asked_as asked.entry) (C.answers clock.old) (C.answers clock.new) second }
+        ensures same { StaysSame self.old.volume self.new.volume }
+        ensures runs { OnOk result (stopped self.new.volume ≡ false) }
+        ensures disk_later { (disk_of self.old.volume).faults ≤ (disk_of self.new.volume).faults }
+        ensures clock_later { C.faults clock.old ≤ C.faults clock.new }
+        ensures device { IsErrOf result SessionFault.Device →
+            Rose (disk_of self.old.volume).faults (disk_of self.new.volume).faults
+            ⊎ Rose (C.faults clock.old) (C.faults clock.new) }
+        ensures no_sink { IsErrOf result SessionFault.Sink → ⊥ }
+    {
+        match read_clock(clock, asked, self.second) {
+            Ok(second) => self.second = second,
+            Err(_) => return Err(SessionFault::Device),
+        }
+        let attempt = answer(&mut self.volume, alloc, asked, payload, text);
+        self.calls = self.calls.saturating_add(attempt.made);
+        attempt.ended
+    }
+
+    /// Serves one line: its calls are made, and its answer is written. The line comes without its newline and the
+    /// carriage return before that, or by its first 4,097 bytes where it has more. `payload` has what stands behind a
+    /// line that takes one: up to COUNT bytes, and the byte in the newline's place; else it is empty. The clock is
+    /// read once for a line that is answered, before its calls.
+    pub fn line<K: Sink, C: Clock>(
+        &mut self,
+        alloc: Global,
+        line: &[u8],
+        payload: &[u8],
+        out: &mut K,
+        clock: &mut C,
+    ) -> Result<Answered, SessionFault>
+        requires { is_over self.old ≡ false }
+        ensures told { (w : PlainVolume) → IsKept self.old.volume w →
+            DoesLine (item_of (line_of self.old.text line.now) payload.now) self.old self.new (K.held out.old) (K.held out.new) result }
+        ensures read { (second : Result ℕ Failed) × IsRead (line_of self.old.text line.now) (C.answers clock.old)
+            (C.answers clock.new) second }
+        ensures text { self.new.text ≡ self.old.text }
+        ensures same { StaysSame self.old.volume self.new.volume }
+        ensures runs { IfOk result (λ a. is_over self.new ≡ is_last a) }
+        ensures disk_later { (disk_of self.old.volume).faults ≤ (disk_of self.new.volume).faults }
+        ensures clock_later { C.faults clock.old ≤ C.faults clock.new }
+        ensures sink_later { K.faults out.old ≤ K.faults out.new }
+        ensures device { IsErrOf result SessionFault.Device →
+            Rose (disk_of self.old.volume).faults (disk_of self.new.volume).faults
+            ⊎ Rose (C.faults clock.old) (C.faults clock.new) }
+        ensures sink { IsErrOf result SessionFault.Sink → Rose (K.faults out.old) (K.faults out.new) }
+    {
+        self.ack = None;
+        let mut text = Vec::new(alloc);
+        let asked = parse(line, self.text);
+        let answered = match self.attempt(alloc, asked, payload, &mut text, clock) {
+            Ok(answered) => answered,
+            Err(fault) => return Err(fault),
+        };
+        self.let_go(answered);
+        match put_all(out, &text) {
+            Ok(()) => {
+                self.acknowledge(is_flushed(asked, answered));
+                Ok(answered)
+            }
+            Err(_) => Err(SessionFault::Sink),
+        }
+    }
+
+    /// Makes the turns of jobs that follow an answered line: in this version there are none.
+    pub fn round(&mut self) -> Result<(), SessionFault>
+        requires { is_over self.old ≡ false }
+        ensures idle { self.new ≡ self.old }
+        ensures ok { IsOk result }
+    {
+        Ok(())
+    }
+
+    /// Ends the session where its script is at its end: makes all durable, so that the volume may be let go, and prints
+    /// nothing. Answers `Refused` where an epoch is wanting for that.
+    pub fn end(&mut self) -> Result<Answered, SessionFault>
+        requires { is_over self.old ≡ false }
+        ensures told { (w : PlainVolume) → IsKept self.old.volume w → DoesEnd self.old self.new result }
+        ensures over { self.new.over ≡ true }
+        ensures same { StaysSame self.old.volume self.new.volume }
+        ensures disk_later { (disk_of self.old.volume).faults ≤ (disk_of self.new.volume).faults }
+        ensures device { IsErrOf result SessionFault.Device →
+            Rose (disk_of self.old.volume).faults (disk_of self.new.volume).faults }
+        ensures no_sink { IsErrOf result SessionFault.Sink → ⊥ }
+    {
+        self.ack = None;
+        self.over = true;
+        match self.volume.flush() {
+            Ok(()) => {
+                self.ack = Some(self.ack_now());
+                Ok(Answered::Ok)
+            }
+            Err(fault) => ended_by(fault),
+        }
     }
 }

@@ -1,2 +1,24 @@
-mod Search
-mod Writes
+pub mod Overwritten
+pub mod States
+pub mod Extents
+pub mod Endured
+pub mod Found
+pub mod Taking
+pub mod Setting
+pub mod BlockSet
+pub mod Touched
+pub mod NewFile
+pub mod ReadBytes
+pub mod Rereads
+pub mod Wanted
+pub mod Counted
+pub mod CutExtents
+pub mod CutCells
+pub mod Stagings
+pub mod Resized
+pub mod Finished
+pub mod OneName
+pub mod GoneFile
+pub mod OtherName
+pub mod Written
+pub mod WriteReplies

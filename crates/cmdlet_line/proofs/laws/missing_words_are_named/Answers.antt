@@ -4,7 +4,7 @@ use Rattle.cmdlet_line.proofs.laws.missing_words_are_named.Goals as goal
 
 pub returns : goal.returns
 returns c = record {
-  name = λ volume line plain are. write_line volume line [] plain.0 plain.1 are;
-  at = λ volume line name plain are. write_line volume line (name ∷ []) plain.0 plain.1 are;
-  count = λ volume line name at plain are some. missing_count volume line name at plain.0 plain.1 are some;
+  name = λ volume line has. write_line volume line [] has;
+  at = λ volume line name has. write_line volume line (name ∷ []) has;
+  count = λ volume line name at has some. missing_count volume line name at has some;
 }

@@ -1,5 +1,5 @@
-use Rattle.std.proofs.Common.{rules, ◌≡◌, ◌≢◌, length}
-use Rattle.cmdlet_line.proofs.WordLaws.{first_word_is, no_words}
+use Rattle.std.proofs.Common.{◌≡◌, ◌≢◌, ◌∙◌, length, rules}
+use Rattle.cmdlet_line.proofs.WordLaws.{bare_word, no_words, quoted_behind}
 use Rattle.cmdlet_line.proofs.spelling.first_word.Goals as goal
 
 pub returns-then-is_empty : goal.returns-then-is_empty
@@ -7,8 +7,14 @@ returns-then-is_empty c =
     let none : length c.text_of-text.result.now ≡ 0 = search rules in
     no_words c.args.line.now c.text_of-text.result.now c.text_of-text.ensures none
 
-pub returns : goal.returns
-returns c =
+pub returns-then-text-eq34 : goal.returns-then-text-eq34
+returns-then-text-eq34 c =
     let some : length c.text_of-text.result.now ≢ 0 = search rules in
-    first_word_is c.args.line.now c.text_of-text.result.now c.unwrap_or-end.result c.text_of-text.ensures some
-    (rw (← c.first_space.ensures) c.unwrap_or-end.ensures)
+    quoted_behind c.args.line.now c.text_of-text.result.now c.text_of-text.ensures some c.if-text-eq34.true
+    ∙ c.word_until.ensures
+
+pub returns-else-text-eq34 : goal.returns-else-text-eq34
+returns-else-text-eq34 c =
+    let some : length c.text_of-text.result.now ≢ 0 = search rules in
+    bare_word c.args.line.now c.text_of-text.result.now c.text_of-text.ensures some c.if-text-eq34.false
+    ∙ c.word_until-else-text-eq34.ensures

@@ -7,10 +7,12 @@ pub loop-digit-preserved : goal.loop-digit-preserved
 loop-digit-preserved c =
     let word = c.args.digits.now in
     let i = c.loop-digit.digit-index in
-    let is : is_ascii_digit (get_or word i 0) ≡ true = digit_at word i c.loop-digit.invariant.numeral.digits (omega arith) in
+    let is : is_ascii_digit (get_or word i 0) ≡ true =
+    digit_at word i c.loop-digit.invariant.numeral.digits (omega arith) in
     let worth : c.from.result ≡ get_or word i 0 - 48 = c.from.ensures in
     record {
       numeral = c.loop-digit.invariant.numeral;
       so_far = rw worth (value_more word i c.loop-digit.value (omega arith) is c.loop-digit.invariant.so_far);
-      small = rw worth (small_more c.loop-digit.value (get_or word i 0) i c.loop-digit.invariant.small (digit_range (get_or word i 0) is).1);
+      small = rw worth (small_more c.loop-digit.value (get_or word i 0) i c.loop-digit.invariant.small
+          (digit_range (get_or word i 0) is).1);
     }

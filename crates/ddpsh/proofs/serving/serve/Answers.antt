@@ -1,54 +1,95 @@
-use Rattle.std.proofs.Common.{◌<◌, refl, sym, ap, Err, ◌∙◌, rules, arith}
+use Rattle.std.proofs.Common.{◌≡◌, ◌≤◌, ◌<◌, ◌^◌, ℕ, true, false, refl, sym, ap, Ok, Err, ◌∙◌, rules, arith}
+use Rattle.cmdlet_line.specs.Lines.{line_of}
 use Rattle.ddpsh.specs.Input.{taken}
-use Rattle.ddpsh.proofs.LoopLaws.{progress_start, progress_more, ran_none, ran_over, ran_fault, ran_stop, fault_long}
+use Rattle.ddpsh.specs.Script.{item_of, first_item}
+use Rattle.ddpsh.specs.Sessions.{is_over}
+use Rattle.ddpsh.specs.declared.answers.Answered.TheVariants as answered
+use Rattle.ddpsh.proofs.StageLaws.{stage_start, stage_none, stage_more, stage_exit, stage_stop, stage_fault, stage_over, fault_long, left_start, is_exit_last, or_right}
 use Rattle.ddpsh.proofs.serving.serve.Goals as goal
 
 pub returns-in-Err-clause-run : goal.returns-in-Err-clause-run
-returns-in-Err-clause-run g c s told = rw c.new.ensures (ran_none _ s _)
+returns-in-Err-clause-run g c kept s told = rw (c.new.ensures, c.new-acks.ensures.items) (stage_none _ s _)
 
 pub items-init : goal.items-init
 items-init g c = record {
-  so = λ s told. progress_start _ s _ _ _ c.in-Ok.ensures.ahead c.in-Ok.ensures.came told;
+  so = λ kept s told. rw c.new-acks.ensures.items (stage_start _ s _ _ _ c.in-Ok.ensures.ahead c.in-Ok.ensures.came told c.requires.fresh kept);
+  read = λ s told. (s, left_start _ _ s c.in-Ok.ensures.ahead c.in-Ok.ensures.came told);
+  running = c.requires.running;
+  text = c.requires.text;
+  same = λ x h. h;
   few = search rules;
   room = search rules;
-  later = search rules;
-  later_source = search rules;
+  disk_later = search rules;
+  clock_later = search rules;
+  sink_later = search rules;
+  source_later = search rules;
 }
 
 pub returns-in-Err-read_item-clause-run : goal.returns-in-Err-read_item-clause-run
-returns-in-Err-read_item-clause-run g c s told =
-    rw (c.new-in-Err-read_item.ensures, c.end_of_fault.ensures) (ran_fault _ _ s _ _ _ _ _ _ c.in-Err-read_item.fault (c.items.invariant.so s told))
+returns-in-Err-read_item-clause-run g c kept s told =
+    rw (c.new-in-Err-read_item.ensures, c.end_of_fault.ensures) (stage_fault _ _ s _ _ _ _ _ _ _ (c.items.invariant.so kept s told) c.in-Err-read_item.fault)
 
 pub returns-in-Err-read_item-clause-too_long : goal.returns-in-Err-read_item-clause-too_long
 returns-in-Err-read_item-clause-too_long g c s told end =
-    let so = c.items.invariant.so s told in
-    c.in-Err-read_item.ensures.over _ so.rest so.left (ap Err (fault_long c.in-Err-read_item.fault (sym c.end_of_fault.ensures ∙ sym (ap (λ ran. ran.end) c.new-in-Err-read_item.ensures) ∙ end)))
+    let read = c.items.invariant.read s told in
+    c.in-Err-read_item.ensures.over _ read.0 read.1 (ap Err (fault_long c.in-Err-read_item.fault (sym c.end_of_fault.ensures ∙ sym (ap (λ ran. ran.end) c.new-in-Err-read_item.ensures) ∙ end)))
 
 pub returns-then-not-some-clause-run : goal.returns-then-not-some-clause-run
-returns-then-not-some-clause-run g c s told =
-    let so = c.items.invariant.so s told in
+returns-then-not-some-clause-run g c kept s told =
+    let so = c.items.invariant.so kept s told in
     rw c.new-then-not-some.ensures
-    (ran_over _ _ s _ _ _ _ _ _ _ _ _ _ so ((rw c.if-not-some.true at c.in-Ok-read_item.ensures.item) _ so.rest so.left))
+    (stage_over _ _ s _ _ _ _ _ _ _ so _ _ _ _ _ c.end_session-end.result _ ((rw c.if-not-some.true at c.in-Ok-read_item.ensures.item) _ so.rest so.left) (c.end_session-end.ensures.told _ so.keeping.kept))
 
 pub returns-in-Err-serve_line-clause-run : goal.returns-in-Err-serve_line-clause-run
-returns-in-Err-serve_line-clause-run g c s told =
-    let so = c.items.invariant.so s told in
+returns-in-Err-serve_line-clause-run g c kept s told =
+    let so = c.items.invariant.so kept s told in
     let read = (rw c.if-not-some.false at c.in-Ok-read_item.ensures.item) _ so.rest so.left in
     let item = read.item refl in
-    rw (c.new-in-Err-serve_line.ensures, c.end_of_stop.ensures) (ran_stop _ _ _ s _ _ _ _ _ _ _ c.in-Err-serve_line.stop _ so (rw (c.deref.ensures.value, c.deref-in-items.ensures.value) item) c.in-Err-serve_line.ensures.stopped)
+    let is : item_of (line_of c.items.session.text c.deref.result.now) c.deref-in-items.result.now ≡ first_item so.rest =
+    rw (c.deref.ensures.value, c.deref-in-items.ensures.value) item in
+    let few : taken c.items.input ≤ 2 ^ 40 = omega (arith, c.items.input.few) in
+    rw (c.new-in-Err-serve_line.ensures, c.end_of_stop.ensures)
+    (stage_stop _ _ _ s _ c.read_item.new.input _ (g.S.Source.left c.read_item.new.script) _ _ _ _ _ _ _ c.read_item.new.line.items c.read_item.new.payload.items _ so is few c.in-Err-serve_line.stop (c.in-Err-serve_line.ensures.told _ so.keeping.kept))
+
+pub returns-then-is_last-clause-run : goal.returns-then-is_last-clause-run
+returns-then-is_last-clause-run g c kept s told =
+    let so = c.items.invariant.so kept s told in
+    let read = (rw c.if-not-some.false at c.in-Ok-read_item.ensures.item) _ so.rest so.left in
+    let item = read.item refl in
+    let is : item_of (line_of c.items.session.text c.deref.result.now) c.deref-in-items.result.now ≡ first_item so.rest =
+    rw (c.deref.ensures.value, c.deref-in-items.ensures.value) item in
+    let few : taken c.items.input ≤ 2 ^ 40 = omega (arith, c.items.input.few) in
+    rw (c.new-then-is_last.ensures, c.is_refusal-refused.ensures, c.counted-lines.ensures.kind)
+    (stage_exit _ _ _ s _ c.read_item.new.input _ _ _ _ _ _ _ _ _ c.read_item.new.line.items c.read_item.new.payload.items _ so is few c.in-Ok-serve_line.answered
+    (is_exit_last c.in-Ok-serve_line.answered (sym c.is_last.ensures ∙ c.if-is_last.true)) read (c.in-Ok-serve_line.ensures.told _ so.keeping.kept))
 
 pub items-preserved : goal.items-preserved
-items-preserved g c = record {
-  so = λ s told.
-      let so = c.items.invariant.so s told in
+items-preserved g c = rw c.round.ensures.idle (record {
+  so = λ kept s told.
+      let so = c.items.invariant.so kept s told in
       let read = (rw c.if-not-some.false at c.in-Ok-read_item.ensures.item) _ so.rest so.left in
       let item = read.item refl in
+      let is : item_of (line_of c.items.session.text c.deref.result.now) c.deref-in-items.result.now ≡ first_item so.rest =
+      rw (c.deref.ensures.value, c.deref-in-items.ensures.value) item in
+      let few : taken c.items.input ≤ 2 ^ 40 = omega (arith, c.items.input.few) in
+      let more : taken c.items.input < taken c.read_item.new.input = (rw c.if-not-some.false at c.in-Ok-read_item.ensures.counted) refl in
+      let last = sym c.is_last.ensures ∙ c.if-is_last.false in
       rw (c.is_refusal-refused.ensures, c.counted-lines.ensures.kind)
-      (progress_more _ _ _ s _ _ _ _ _ _ _ _ _ _ _ _ c.in-Ok-serve_line.answered so read (rw (c.deref.ensures.value, c.deref-in-items.ensures.value) item) c.in-Ok-serve_line.ensures.done);
+      (stage_more _ _ _ s _ c.read_item.new.input _ _ _ _ _ _ _ _ _ c.read_item.new.line.items c.read_item.new.payload.items _ so is few c.in-Ok-serve_line.answered read more last
+      (or_right c.serve_line.new.session.over _ (c.in-Ok-serve_line.ensures.runs ∙ last)) (c.in-Ok-serve_line.ensures.told _ so.keeping.kept));
+  read = λ s told.
+      let so = c.items.invariant.read s told in
+      let read = (rw c.if-not-some.false at c.in-Ok-read_item.ensures.item) _ so.0 so.1 in
+      (_, read.left refl);
+  running = c.in-Ok-serve_line.ensures.runs ∙ (sym c.is_last.ensures ∙ c.if-is_last.false);
+  text = c.serve_line.ensures.text ∙ c.items.invariant.text;
+  same = λ x h. c.serve_line.ensures.same x (c.items.invariant.same x h);
   few =
       let more : taken c.items.input < taken c.read_item.new.input = (rw c.if-not-some.false at c.in-Ok-read_item.ensures.counted) refl in
       omega (arith, c.counted-lines.ensures.small);
   room = search rules;
-  later = omega (arith, c.serve_line.ensures.later);
-  later_source = omega (arith, c.read_item.ensures.later);
-}
+  disk_later = omega (arith, c.serve_line.ensures.disk_later, c.items.invariant.disk_later);
+  clock_later = omega (arith, c.serve_line.ensures.clock_later, c.items.invariant.clock_later);
+  sink_later = omega (arith, c.serve_line.ensures.sink_later, c.items.invariant.sink_later);
+  source_later = omega (arith, c.read_item.ensures.later, c.items.invariant.source_later);
+})

@@ -1,17 +1,26 @@
-use Rattle.std.proofs.Common.{◌≡◌, ◌≤◌, ◌-◌, ◌^◌, ℕ, List, Some, vec_capacity}
-use Rattle.ddpsh.specs.Input.{taken}
-use Rattle.ddpsh.specs.Saying.{state_of}
-use Rattle.ddpsh.specs.Ends.{Progress}
+use Rattle.std.proofs.Common.{◌≡◌, ◌≤◌, ◌-◌, ◌^◌, ℕ, false, List, length, Some, vec_capacity}
+use Rattle.ddpsh.specs.Input.{taken, IsLeft}
+use Rattle.ddpsh.specs.Script.{volume_text}
+use Rattle.volume_core.specs.Volumes.{disk_of, view_now, IsKept}
+use Rattle.ddpsh.specs.Served.{StaysSame}
+use Rattle.ddpsh.specs.Sessions.{is_over}
+use Rattle.ddpsh.specs.Steps.{Stage}
 use Rattle.ddpsh.proofs.serving.serve.Given as goal
 
 abbrev pub invariant-items : goal.invariant-items
 invariant-items g l = record {
-  so : (s : List ℕ) → g.S.Source.left l.fn.script ≡ Some s →
-      Progress (state_of l.fn.files) (state_of l.files) s l.input (g.S.Source.left l.script) (g.K.Sink.held l.fn.out) (g.K.Sink.held l.out) l.refused l.lines;
+  so : IsKept l.fn.session.volume (view_now l.fn.session.volume) → (s : List ℕ) → g.S.Source.left l.fn.script ≡ Some s →
+      Stage l.fn.session l.session s l.input (g.S.Source.left l.script) (g.K.Sink.held l.fn.out) (g.K.Sink.held l.out) l.refused l.lines l.acks.items;
+  read : (s : List ℕ) → g.S.Source.left l.fn.script ≡ Some s → (rest : List ℕ) × IsLeft l.input (g.S.Source.left l.script) (length s) rest;
+  running : is_over l.session ≡ false;
+  text : l.session.text ≡ volume_text;
+  same : StaysSame l.fn.session.volume l.session.volume;
   few : l.lines ≤ taken l.input;
   room : 4098 ≤ vec_capacity l.line;
-  later : g.K.Sink.faults l.fn.out ≤ g.K.Sink.faults l.out;
-  later_source : g.S.Source.faults l.fn.script ≤ g.S.Source.faults l.script;
+  disk_later : (disk_of l.fn.session.volume).faults ≤ (disk_of l.session.volume).faults;
+  clock_later : g.C.Clock.faults l.fn.clock ≤ g.C.Clock.faults l.clock;
+  sink_later : g.K.Sink.faults l.fn.out ≤ g.K.Sink.faults l.out;
+  source_later : g.S.Source.faults l.fn.script ≤ g.S.Source.faults l.script;
 }
 
 abbrev pub decreases-items : goal.decreases-items

@@ -1,27 +1,19 @@
-use Rattle.std.proofs.Common.{refl, subst, rules}
-use Rattle.ddpsh.specs.Saying.{state_of}
-use Rattle.ddpsh.specs.Ends.{RunOf}
-use Rattle.ddpsh.proofs.TopLaws.{printed_since}
+use Rattle.std.proofs.Common.{◌≡◌, sym, subst, ℕ}
+use Rattle.ddpsh.specs.Opens.{IsRefusal, is_reason}
+use Rattle.ddpsh.specs.Whole.{IsRun}
+use Rattle.ddpsh.proofs.CommandLaws.{asks_one}
+use Rattle.ddpsh.proofs.TopLaws.{run_lent, refused_lent, rose_lent}
 use Rattle.ddpsh.proofs.top.run.Goals as goal
 
-pub returns-clause-run : goal.returns-clause-run
-returns-clause-run g c command s told =
-    let run = c.serve-ran.ensures.run s told in
-    record {
-      ran = c.serve-ran.result;
-      closing = state_of c.serve-ran.new.files;
-      mid = g.K.Sink.held c.serve-ran.new.out;
-      run = subst (λ v. RunOf (state_of v) (state_of c.serve-ran.new.files) s (g.K.Sink.held c.args.out.now) (g.K.Sink.held c.serve-ran.new.out) c.serve-ran.result) c.new-files.ensures run;
-      last = printed_since _ _ _ _ _ _ c.serve-ran.ensures.later (rw c.last_line.ensures at c.print_last-2.ensures.printed);
-      status = search rules;
-      lines = refl;
-    }
+pub returns-in-Some-clause-run : goal.returns-in-Some-clause-run
+returns-in-Some-clause-run g c command asks tells s told =
+    run_lent g.D.Disk.state c.in-Some.command command _ c.disk-1.given.0 c.run_over-back.result.0.now s _ _ _ _ _ (asks_one c.args.words.now c.in-Some.command command c.in-Some.ensures.some asks)
+    (c.disk-1.given.1 c.run_over-back.ensures.same) (c.run_over-back.ensures.run tells s told)
 
-pub returns-clause-ended : goal.returns-clause-ended
-returns-clause-ended g c command = record {
-  end = c.serve-ran.result.end;
-  refused = c.serve-ran.result.refused;
-  mid = g.K.Sink.held c.serve-ran.new.out;
-  last = printed_since _ _ _ _ _ _ c.serve-ran.ensures.later (rw c.last_line.ensures at c.print_last-2.ensures.printed);
-  status = search rules;
-}
+pub returns-in-Some-clause-refused : goal.returns-in-Some-clause-refused
+returns-in-Some-clause-refused g c command asks status =
+    refused_lent g.D.Disk.state c.in-Some.command command _ c.disk-1.given.0 c.run_over-back.result.0.now (asks_one c.args.words.now c.in-Some.command command c.in-Some.ensures.some asks)
+    (c.disk-1.given.1 c.run_over-back.ensures.same) (c.run_over-back.ensures.refused status)
+
+pub returns-in-Some-clause-device : goal.returns-in-Some-clause-device
+returns-in-Some-clause-device g c status = rose_lent g.D.Disk.state _ c.disk-1.given.0 c.run_over-back.result.0.now _ (c.disk-1.given.1 c.run_over-back.ensures.same) (c.run_over-back.ensures.device status)

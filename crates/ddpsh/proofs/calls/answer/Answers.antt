@@ -1,0 +1,14 @@
+use Rattle.std.proofs.Common.{refl}
+use Rattle.cmdlet_line.specs.Lines.{refusal_of}
+use Rattle.ddpsh.specs.Script.{Bad}
+use Rattle.ddpsh.specs.Answers.{Refused, refusal_text}
+use Rattle.ddpsh.proofs.CallLaws.{comes_none, plain_exit}
+use Rattle.ddpsh.proofs.calls.answer.Goals as goal
+
+pub returns-in-Err-clause-told : goal.returns-in-Err-clause-told
+returns-in-Err-clause-told g c w kept =
+    rw (c.in-Err.is, c.uncalled.ensures)
+    (comes_none (Bad (refusal_of c.in-Err.fault)) c.args.volume.now (λ before. Refused (refusal_text (refusal_of c.in-Err.fault))) _ c.refused_line.result (λ s calls answer h. h) plain_exit refl c.refused_line.ensures.said)
+
+pub returns-in-Ok-clause-told : goal.returns-in-Ok-clause-told
+returns-in-Ok-clause-told g c w kept = rw c.in-Ok.is (c.answer_line.ensures.told w kept)

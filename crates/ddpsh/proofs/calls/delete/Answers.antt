@@ -1,0 +1,24 @@
+use Rattle.std.proofs.Common.{refl, inl}
+use Rattle.std.proofs.lemmas.Bool.{false≢true}
+use Rattle.cmdlet_line.specs.Lines.{Delete}
+use Rattle.plain_volume.specs.Replies.{done_reply}
+use Rattle.plain_volume.specs.declared.call.Call.TheVariants as call
+use Rattle.ddpsh.specs.Script.{Bare}
+use Rattle.ddpsh.proofs.CallLaws.{Called, comes_call, fits_once}
+use Rattle.ddpsh.proofs.calls.delete.Goals as goal
+
+pub returns-clause-told : goal.returns-clause-told
+returns-clause-told g c w kept =
+    let did : Called (call.Delete c.args.name.now) c.args.volume.now c.delete-given.new.self
+    (done_reply c.delete-given.result) = record {
+      law = c.own_replies_are_steps.ensures;
+      replied = inl (c.delete-given.ensures.reply);
+      left = c.delete-given.ensures.left;
+      want = c.delete-given.ensures.want;
+      fails = refl;
+      endures = c.delete-given.ensures.endures;
+    } in
+    rw c.called.ensures
+    (comes_call (Bare (Delete c.args.name.now)) (call.Delete c.args.name.now) _ _ _ _ c.done.result did
+    (fits_once (Bare (Delete c.args.name.now)) (call.Delete c.args.name.now) (λ v w calls answer h. h) (λ v calls h. h) refl)
+    (λ answer says h. absurd (false≢true h)) c.done.ensures.said)

@@ -1,0 +1,34 @@
+use Rattle.std.proofs.Common.{◌∙◌, refl, replicate}
+use Rattle.std.proofs.lemmas.Bool.{false≢true}
+use Rattle.cmdlet_line.specs.Lines.{Fill}
+use Rattle.plain_volume.specs.Replies.{done_reply}
+use Rattle.plain_volume.specs.declared.call.Call.TheVariants as call
+use Rattle.ddpsh.specs.Script.{Bare}
+use Rattle.ddpsh.proofs.CallLaws.{Called, comes_call, fits_once, broke_none, filled_as}
+use Rattle.ddpsh.proofs.calls.fill.Goals as goal
+
+pub returns-in-Ok-clause-told : goal.returns-in-Ok-clause-told
+returns-in-Ok-clause-told g c w kept =
+    let did : Called (call.Write c.args.name.now c.args.at c.deref.result.now) c.args.volume.now c.write-given.new.self
+    (done_reply c.write-given.result) = record {
+      law = c.own_replies_are_steps.ensures;
+      replied = c.write-given.ensures.reply;
+      left = c.write-given.ensures.left w kept;
+      want = c.write-given.ensures.want;
+      fails = refl;
+      endures = c.write-given.ensures.endures;
+    } in
+    rw c.called.ensures
+    (comes_call (Bare (Fill c.args.name.now c.args.at c.args.count c.args.byte))
+    (call.Write c.args.name.now c.args.at (replicate c.args.count c.args.byte)) _ _ _ _ c.done.result
+    (filled_as c.args.name.now c.args.at _ (replicate c.args.count c.args.byte) _ _ _
+    (c.deref.ensures.value ∙ c.in-Ok.ensures.bytes) did)
+    (fits_once (Bare (Fill c.args.name.now c.args.at c.args.count c.args.byte))
+    (call.Write c.args.name.now c.args.at (replicate c.args.count c.args.byte)) (λ v w calls answer h. h)
+    (λ v calls h. h) refl)
+    (λ answer says h. absurd (false≢true h)) c.done.ensures.said)
+
+pub returns-in-Err-clause-told : goal.returns-in-Err-clause-told
+returns-in-Err-clause-told g c w kept =
+    rw c.uncalled.ensures
+    (broke_none (Bare (Fill c.args.name.now c.args.at c.args.count c.args.byte)) c.args.volume.now)

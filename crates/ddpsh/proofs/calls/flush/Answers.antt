@@ -1,0 +1,27 @@
+use Rattle.std.proofs.Common.{refl, inl}
+use Rattle.cmdlet_line.specs.Lines.{Flush}
+use Rattle.plain_volume.specs.Replies.{done_reply}
+use Rattle.plain_volume.specs.declared.call.Call.TheVariants as call
+use Rattle.ddpsh.specs.Script.{Bare}
+use Rattle.ddpsh.proofs.CallLaws.{Called, Flushed, comes_call, fits_once, flush_kept}
+use Rattle.ddpsh.proofs.calls.flush.Goals as goal
+
+pub returns-clause-told : goal.returns-clause-told
+returns-clause-told g c w kept =
+    let did : Called call.Flush c.args.volume.now c.flush-given.new.self (done_reply c.flush-given.result) = record {
+      law = c.own_replies_are_steps.ensures;
+      replied = inl (c.flush-given.ensures.reply);
+      left = c.flush-given.ensures.left;
+      want = c.flush-given.ensures.want;
+      fails = refl;
+      endures = c.flush-given.ensures.endures;
+    } in
+    let flushed : Flushed c.args.volume.now c.flush-given.new.self c.flush-given.result = record {
+      replied = c.flush-given.ensures.reply;
+      left = c.flush-given.ensures.left;
+      durable = c.flush-given.ensures.durable w kept;
+      endures = c.flush-given.ensures.endures;
+    } in
+    rw c.called.ensures
+    (comes_call (Bare Flush) call.Flush _ _ _ _ c.done.result did (fits_once (Bare Flush) call.Flush (λ v w calls answer h. h) (λ v calls h. h) refl)
+    (λ answer says h. flush_kept c.args.volume.now c.flush-given.new.self c.flush-given.result answer says h flushed) c.done.ensures.said)

@@ -1,0 +1,24 @@
+use Rattle.std.proofs.Common.{◌≡◌, Ok, Err, refl}
+use Rattle.ddpsh.proofs.CallLaws.{Flushed}
+use Rattle.ddpsh.proofs.LineOfLaws.{end_ok, end_refused_as}
+use Rattle.ddpsh.proofs.session.Session.end.Goals as goal
+
+pub returns-in-Ok-clause-told : goal.returns-in-Ok-clause-told
+returns-in-Ok-clause-told g c w kept =
+    let did : Flushed c.args.self.now.volume c.flush.new.self (Ok tt) = record {
+      replied = c.in-Ok.ensures.reply;
+      left = c.in-Ok.ensures.left;
+      durable = c.in-Ok.ensures.durable w kept;
+      endures = c.flush.ensures.endures;
+    } in
+    end_ok c.args.self.now _ did refl (rw c.ack_now.ensures refl)
+
+pub returns-in-Err-clause-told : goal.returns-in-Err-clause-told
+returns-in-Err-clause-told g c w kept =
+    let did : Flushed c.args.self.now.volume c.flush.new.self (Err c.in-Err.fault) = record {
+      replied = c.in-Err.ensures.reply;
+      left = c.in-Err.ensures.left;
+      durable = tt;
+      endures = c.flush.ensures.endures;
+    } in
+    end_refused_as c.args.self.now _ c.in-Err.fault c.ended_by.result c.ended_by.ensures did refl refl

@@ -1,0 +1,7 @@
+use Rattle.std.proofs.Common.{inl}
+use Rattle.ddpsh.proofs.TopLaws.{opened_run}
+use Rattle.ddpsh.proofs.top.run_over.Goals as goal
+
+pub returns-in-Ok-clause-run : goal.returns-in-Ok-clause-run
+returns-in-Ok-clause-run g c tells s told =
+    inl (opened_run c.args.command c.in-Ok.volume _ _ s _ _ _ _ _ (c.in-Ok.ensures.opens tells) (c.in-Ok.ensures.kept tells) c.in-Ok.ensures.read (c.serve_script.ensures.run (c.in-Ok.ensures.kept tells) s told))

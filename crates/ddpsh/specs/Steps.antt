@@ -1,0 +1,105 @@
+-- Lines in a row, over one session.
+use Rattle.std.specs.Prelude.{◌≡◌, ◌≤◌, ◌*◌, ℕ, Bool, true, false, List, [], ◌∷◌, ◌++◌, length, map, take, Contains, Option, Some, Result, Ok, Err}
+use Rattle.vdisk.specs.declared.disk.Disk.{Ghosts}
+use Rattle.plain_volume.specs.Volume.{Volume}
+use Rattle.plain_volume.specs.Step.{replay}
+use Rattle.plain_volume.specs.declared.call.Call.{Call}
+use Rattle.plain_volume.specs.declared.call.Call.TheVariants as call
+use Rattle.plain_volume.specs.declared.call.Reply.{Reply}
+use Rattle.ddpsh.specs.States.{State, reply_in}
+use Rattle.volume_core.specs.Volumes.{disk_of, view_now, IsKept}
+use Rattle.ddpsh.specs.Crashes.{Survives, LastsFrom}
+use Rattle.ddpsh.specs.Script.{Item}
+use Rattle.ddpsh.specs.Answers.{Answer, said, is_accepted, is_refused}
+use Rattle.ddpsh.specs.Runs.{Entry, Made, StayOpen, calls_of, acknowledged}
+use Rattle.ddpsh.specs.Ends.{AnsweredSo, RunOf, stop_end, over_end}
+use Rattle.ddpsh.specs.Input.{IsLeft, taken}
+use Rattle.ddpsh.specs.Sessions.{state_of, ack_now, counted_on, LineEnds}
+use Rattle.ddpsh.specs.declared.limits.TheConstants.{MOST_CALLS_OF_A_LINE}
+use Rattle.ddpsh.specs.declared.acks.Ack.{Ack}
+use Rattle.ddpsh.specs.declared.input.Input.{Input}
+use Rattle.ddpsh.specs.declared.answers.Answered.{Answered}
+use Rattle.ddpsh.specs.declared.ending.End.{End}
+use Rattle.ddpsh.specs.declared.ending.End.TheVariants as ends
+use Rattle.ddpsh.specs.declared.ending.Ran.{Ran}
+use Rattle.ddpsh.specs.declared.stops.SessionFault.{SessionFault}
+use Rattle.ddpsh.specs.declared.session.Session.{Session}
+
+abbrev pub acks_when : Bool → Ack → List Ack
+acks_when true ack = ack ∷ []
+acks_when false ack = []
+
+abbrev pub session_end : Result Answered SessionFault → End
+session_end (Ok kind) = over_end kind
+session_end (Err stop) = stop_end stop
+
+-- the ends of a run whose script was read to its end
+abbrev pub IsSessionEnd : End → Type 0
+IsSessionEnd ends.Over = Unit {0}
+IsSessionEnd ends.Worn = Unit {0}
+IsSessionEnd ends.Device = Unit {0}
+IsSessionEnd ends.Memory = Unit {0}
+IsSessionEnd other = ⊥
+
+-- how the end of a script ends a run, in a state of the plain volume
+abbrev pub EndsOver : End → State → Bool → Type 0
+EndsOver ends.Over v durable = (answer : Answer) × (said (reply_in v call.Flush) ≡ Some answer)
+    × (is_accepted answer ≡ true) × (durable ≡ true)
+EndsOver ends.Worn v durable = (answer : Answer) × (said (reply_in v call.Flush) ≡ Some answer)
+    × (is_refused answer ≡ true) × (durable ≡ false)
+EndsOver ends.Device v durable = durable ≡ false
+EndsOver ends.Memory v durable = durable ≡ false
+EndsOver other v durable = ⊥
+
+module _ {D : Type 0} {d : Ghosts D} where
+  -- what a line does to a run: `durable` says that it acknowledged all calls so far
+  pub record DoesStep (item : Item) (old new : Session D d) (before held : Option (List ℕ))
+      (result : Result Answered SessionFault) (acks later : List Ack) : Type 0 where
+    pub calls : List (Call × Reply)
+    pub durable : Bool
+    pub made : Made (state_of old) (state_of new) calls
+    pub ends : LineEnds result item (state_of old) (state_of new) calls durable before held
+    pub counted : new.calls ≡ counted_on old.calls (length calls)
+    pub few : length calls ≤ MOST_CALLS_OF_A_LINE
+    pub survives : Survives old.volume new.volume calls
+    pub acks_are : later ≡ acks ++ acks_when durable (ack_now new)
+    pub kept : durable ≡ true → IsKept new.volume (view_now new.volume)
+
+  -- what the end of a script does to a run
+  pub record DoesEndStep (old new : Session D d) (end : End) (acks later : List Ack) : Type 0 where
+    pub durable : Bool
+    pub made : Made (state_of old) (state_of new) []
+    pub ends : EndsOver end (state_of old) durable
+    pub counted : new.calls ≡ old.calls
+    pub survives : Survives old.volume new.volume []
+    pub acks_are : later ≡ acks ++ acks_when durable (ack_now new)
+    pub kept : durable ≡ true → IsKept new.volume (view_now new.volume)
+
+  -- What is kept at some point of a run: the volume after a front of its calls, which holds every acknowledged call.
+  pub record Keeping (opening : Volume) (now : Session D d) (calls : List (Call × Reply))
+      (acks : List Ack) : Type 0 where
+    pub count : ℕ
+    pub within : count ≤ length calls
+    pub kept : IsKept now.volume (replay opening (take count calls))
+    pub holds : (ack : Ack) → Contains acks ack → ack.calls ≤ count
+
+  -- a run that is not over: the items so far are answered, and the rest is left
+  pub record Stage (first now : Session D d) (script : List ℕ) (input : Input) (source before held : Option (List ℕ))
+      (refused : Bool) (lines : ℕ) (acks : List Ack) : Type 0 where
+    pub entries : List Entry
+    pub rest : List ℕ
+    pub so : AnsweredSo (state_of first) (state_of now) script before held refused lines entries rest
+    pub left : IsLeft input source (length script) rest
+    pub open_yet : StayOpen entries
+    pub acks_are : map (λ ack. ack.calls) acks ≡ acknowledged 0 entries
+    pub counted : now.calls ≡ length (calls_of entries)
+    pub few : length (calls_of entries) ≤ MOST_CALLS_OF_A_LINE * taken input
+    pub lasts : LastsFrom (view_now first.volume) (disk_of first.volume) (disk_of now.volume) (calls_of entries) acks
+    pub keeping : Keeping (view_now first.volume) now (calls_of entries) acks
+
+  -- a run that is over: what it served, and what a crash leaves behind it
+  pub record SessionRun (first now : Session D d) (script : List ℕ) (before held : Option (List ℕ)) (ran : Ran)
+      (acks : List Ack) : Type 0 where
+    pub calls : List (Call × Reply)
+    pub run : RunOf (state_of first) (state_of now) script before held ran calls (map (λ ack. ack.calls) acks)
+    pub lasts : LastsFrom (view_now first.volume) (disk_of first.volume) (disk_of now.volume) calls acks

@@ -1,0 +1,56 @@
+// A volume is opened: mounted, or made anew.
+ghost use Rattle.std.specs.Prelude.{◌≡◌, ◌≤◌, false, IsTrue, IfOk, IfErr};
+ghost use Rattle.meta_log.specs.Opened.{IsOnlyRead};
+ghost use Rattle.ddpsh.specs.Answers.{Refused, text_of};
+ghost use Rattle.ddpsh.specs.Commands.{IsInRange};
+ghost use Rattle.ddpsh.specs.Opens.{Opens, IsRefusal, IsRefusedEnd};
+ghost use Rattle.ddpsh.specs.Outcomes.{mount_text};
+ghost use Rattle.volume_core.specs.Volumes.{device_of, disk_of, view_now, stopped, IsKept};
+ghost use Rattle.ddpsh.specs.declared.commands.Command.TheVariants as asks;
+
+use crate::answers::refused_mount;
+use crate::commands::Command;
+use crate::ending::End;
+use std::alloc::Global;
+use vdisk::Disk;
+use volume_core::Volume;
+use volume_tables::MountFault;
+
+/// Opens the volume that the command asks for, or hands the disk back.
+pub(crate) fn open<D: Disk>(
+    alloc: Global,
+    command: Command,
+    disk: D,
+) -> Result<Volume<D>, (D, MountFault)>
+    requires { IsInRange command }
+    ensures opens { IsTrue (D.state disk).tells →
+        IfOk result (λ v. Opens command (D.state disk).image (view_now v)) }
+    ensures kept { IsTrue (D.state disk).tells → IfOk result (λ v. IsKept v (view_now v)) }
+    ensures runs { IfOk result (λ v. stopped v ≡ false) }
+    ensures refused { IfErr result (λ e. IsRefusal command (D.state disk) (D.state e.0) e.1) }
+    ensures later { IfOk result (λ v. (D.state disk).faults ≤ (disk_of v).faults) }
+    ensures read { command ≡ asks.Mount → IfOk result (λ v. IsOnlyRead (D.state disk) (disk_of v)) }
+    ensures read_err { command ≡ asks.Mount → IfErr result (λ e. IsOnlyRead (D.state disk) (D.state e.0)) }
+    ensures same { IfOk result (λ v. D.is_same disk (device_of v)) }
+    ensures same_err { IfErr result (λ e. D.is_same disk e.0) }
+{
+    match command {
+        Command::Mount => Volume::mount(alloc, disk),
+        Command::Format(clusters) => Volume::format(alloc, disk, clusters),
+    }
+}
+
+/// How a run ends that opened no volume; `text` gets the refusal, where one is printed.
+pub(crate) fn end_of_refusal(fault: MountFault, text: &mut Vec<u8>) -> End
+    ensures end { IsRefusedEnd fault result }
+    ensures text { result ≡ End.Refused fault → text.new.items ≡ text_of (Refused (mount_text fault)) }
+{
+    match fault {
+        MountFault::Failed => End::Device,
+        MountFault::Memory => End::Memory,
+        _ => match refused_mount(text, fault) {
+            Ok(_) => End::Refused(fault),
+            Err(_) => End::Memory,
+        },
+    }
+}

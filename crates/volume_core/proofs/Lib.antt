@@ -1,0 +1,11 @@
+pub mod Counted
+pub mod Wanting
+pub mod Causes
+pub mod Flushed
+pub mod Opened
+pub mod Answered
+pub mod Listed
+pub mod Read
+pub mod Hashed
+pub mod Written
+pub mod Bounds

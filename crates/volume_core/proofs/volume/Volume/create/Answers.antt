@@ -1,0 +1,17 @@
+use Rattle.plain_volume.specs.declared.call.Call.TheVariants.{Create}
+use Rattle.volume_tables.specs.Tables.{disk_of, view_now}
+use Rattle.volume_files.specs.Needs.{create_needs}
+use Rattle.volume_files.specs.Wants.{wanting}
+use Rattle.volume_core.proofs.Causes.{failed_rose_too}
+use Rattle.volume_core.proofs.Wanting.{create_may, create_not_failed}
+use Rattle.volume_core.proofs.volume.Volume.create.Goals as goal
+
+pub returns-clause-want : goal.returns-clause-want
+returns-clause-want g c = create_may c.args.self.now.tables c.args.name.now
+
+pub returns-clause-failed : goal.returns-clause-failed
+returns-clause-failed g c =
+    let t = c.args.self.now.tables in
+    failed_rose_too (view_now t) (Create c.args.name.now) (wanting t (create_needs c.args.name.now))
+    (create_not_failed t c.args.name.now) (disk_of t).faults (disk_of c.create.new.tables).faults c.create.result
+    c.create.ensures.reply

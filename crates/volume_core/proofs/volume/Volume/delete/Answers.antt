@@ -1,0 +1,17 @@
+use Rattle.plain_volume.specs.declared.call.Call.TheVariants.{Delete}
+use Rattle.volume_tables.specs.Tables.{disk_of, view_now}
+use Rattle.volume_files.specs.Needs.{delete_needs}
+use Rattle.volume_files.specs.Wants.{wanting}
+use Rattle.volume_core.proofs.Causes.{failed_rose}
+use Rattle.volume_core.proofs.Wanting.{delete_may, delete_not_failed}
+use Rattle.volume_core.proofs.volume.Volume.delete.Goals as goal
+
+pub returns-clause-want : goal.returns-clause-want
+returns-clause-want g c = delete_may c.args.self.now.tables c.args.name.now
+
+pub returns-clause-failed : goal.returns-clause-failed
+returns-clause-failed g c =
+    let t = c.args.self.now.tables in
+    failed_rose (view_now t) (Delete c.args.name.now) (wanting t (delete_needs c.args.name.now))
+    (delete_not_failed t c.args.name.now) (disk_of t).faults (disk_of c.delete.new.tables).faults c.delete.result
+    c.delete.ensures.reply

@@ -1,0 +1,47 @@
+use Rattle.std.proofs.Common.{◌≡◌, ◌+◌, List, inl, inr, ap, sym, subst}
+use Rattle.std.proofs.lemmas.Result.{on_ok_weaker}
+use Rattle.cluster_space.specs.declared.state.State.{State}
+use Rattle.cluster_space.specs.States.{free_in, deferred_in}
+use Rattle.volume_inside.specs.Shows.{Kept}
+use Rattle.volume_tables.specs.Tables.{states_of, view_now, area_of, GoesOn}
+use Rattle.volume_tables.proofs.Freed.{both_ok}
+use Rattle.volume_tables.proofs.Roomed.{unless_stopped, released_counts}
+use Rattle.volume_files.proofs.Endured.{endures_room}
+use Rattle.volume_core.proofs.Flushed.{kept_now, sound_still}
+use Rattle.volume_core.proofs.volume.Volume.flush.Goals as goal
+
+pub invariant_of-self : goal.invariant_of-self
+invariant_of-self g c =
+    let t = c.args.self.now.tables in
+    let u = c.commit.new.self in
+    let s = c.commit.ensures in
+    record {
+      sound = sound_still t u c.args.self.now.sound s.clusters s.now
+          (unless_stopped t u c.commit.result s.refused (λ f. (s.failed f).1)
+          (free_in (states_of u) + deferred_in (states_of u) ≡ free_in (states_of t) + deferred_in (states_of t))
+          (on_ok_weaker c.commit.result (λ freed. released_counts (states_of t) (states_of u) freed) s.freed)
+          (λ worn. ap (λ (xs : List State). free_in xs + deferred_in xs) (s.unspent worn).1))
+          (λ runs. c.requires.running);
+    }
+
+pub returns-clause-durable : goal.returns-clause-durable
+returns-clause-durable g c w kept =
+    let t = c.args.self.now.tables in
+    let s = c.commit.ensures in
+    on_ok_weaker c.commit.result (λ both. kept_now t c.commit.new.self (view_now t) s.clusters both.0 both.1)
+    (both_ok _ _ c.commit.result (s.tables kept.stored kept.tables) (s.kept kept.stored w kept.tables kept.kept))
+
+pub returns-clause-endures : goal.returns-clause-endures
+returns-clause-endures g c =
+    let t = c.args.self.now.tables in
+    let u = c.commit.new.self in
+    let s = c.commit.ensures in
+    endures_room t u s.clusters s.moments
+    (λ stored w is kept. unless_stopped t u c.commit.result s.refused (λ f. (s.failed f).1) (GoesOn t u stored w)
+    (on_ok_weaker c.commit.result (λ both. inr both)
+    (both_ok _ _ c.commit.result (s.tables stored is) (s.kept stored w is kept)))
+    (λ worn. inl (
+      s.still_stored stored is worn,
+      subst (λ (x : g.row.D.Denot). Kept (area_of t) (g.D.Disk.state x) w) (sym (s.unspent worn).0) kept,
+    )))
+    s.later s.same s.epoch

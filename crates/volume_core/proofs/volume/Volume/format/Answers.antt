@@ -1,0 +1,8 @@
+use Rattle.volume_core.proofs.Opened.{found_sound, shows_no_file}
+use Rattle.volume_core.proofs.volume.Volume.format.Goals as goal
+
+pub invariant_of-result : goal.invariant_of-result
+invariant_of-result g c = record { sound = found_sound c.in-Ok.tables c.in-Ok.ensures.rules c.in-Ok.ensures.space }
+
+pub returns-in-Ok-clause-now : goal.returns-in-Ok-clause-now
+returns-in-Ok-clause-now g c = shows_no_file c.in-Ok.tables c.in-Ok.ensures.now

@@ -1,0 +1,33 @@
+use Rattle.std.proofs.Common.{rules, ◌≡◌, ◌+◌, ◌≤◌, length, Err, arith}
+use Rattle.plain_volume.specs.Step.{read}
+use Rattle.plain_volume.specs.declared.call.Call.TheVariants.{Read}
+use Rattle.volume_tables.specs.Tables.{disk_of, view_now}
+use Rattle.volume_files.proofs.Endured.{endures_start}
+use Rattle.volume_core.proofs.Answered.{read_replied}
+use Rattle.volume_core.proofs.Causes.{refused_not_failed}
+use Rattle.volume_core.proofs.Read.{read_endures}
+use Rattle.volume_core.proofs.volume.Volume.read_into.Goals as goal
+
+pub returns-in_err-file-clause-failed : goal.returns-in_err-file-clause-failed
+returns-in_err-file-clause-failed g c failed =
+    let v = view_now c.args.self.now.tables in
+    let refused : c.from_residual.result ≡ Err c.in_err-file.field-0.0 = search rules in
+    absurd (refused_not_failed v (Read c.args.name.now c.args.at (length c.args.out.now)) c.in_err-file.field-0.0
+    (c.in_err-file.ensures.refused (read c.args.at (length c.args.out.now) v)) (cc))
+
+pub returns-then-at-record-clause-endures : goal.returns-then-at-record-clause-endures
+returns-then-at-record-clause-endures g c = endures_start g.met.D.Disk.same_self c.args.self.now.tables
+
+pub returns-clause-reply : goal.returns-clause-reply
+returns-clause-reply g c w kept =
+    let t = c.args.self.now.tables in
+    let within : c.args.at + length c.args.out.now ≤ c.in_ok-file.record.length = omega arith in
+    read_replied t c.args.self.now.sound c.args.name.now c.in_ok-file.file c.in_ok-file.record
+    c.in_ok-file.ensures.found
+    (disk_of t).faults (disk_of c.read_plain.new.tables).faults c.args.at c.args.out.now c.read_plain.new.out within
+    c.read_plain.result (c.read_plain.ensures.bytes kept.stored kept.tables) c.read_plain.ensures.failed
+
+pub returns-clause-endures : goal.returns-clause-endures
+returns-clause-endures g c =
+    read_endures c.args.self.now.tables c.read_plain.new.tables c.read_plain.ensures.reads
+    g.met.D.Disk.same_self g.met.D.Disk.same_next c.requires.running

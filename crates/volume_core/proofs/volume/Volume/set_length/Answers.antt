@@ -1,0 +1,16 @@
+use Rattle.plain_volume.specs.declared.call.Call.TheVariants.{SetLength}
+use Rattle.volume_tables.specs.Tables.{disk_of, view_now}
+use Rattle.volume_files.specs.Lengths.{length_wants}
+use Rattle.volume_core.proofs.Causes.{failed_rose}
+use Rattle.volume_core.proofs.Wanting.{length_may, length_not_failed}
+use Rattle.volume_core.proofs.volume.Volume.set_length.Goals as goal
+
+pub returns-clause-want : goal.returns-clause-want
+returns-clause-want g c = length_may c.args.self.now.tables c.args.name.now c.args.length
+
+pub returns-clause-failed : goal.returns-clause-failed
+returns-clause-failed g c =
+    let t = c.args.self.now.tables in
+    failed_rose (view_now t) (SetLength c.args.name.now c.args.length) (length_wants t c.args.name.now c.args.length)
+    (length_not_failed t c.args.name.now c.args.length) (disk_of t).faults (disk_of c.set_length.new.tables).faults
+    c.set_length.result c.set_length.ensures.reply

@@ -1,0 +1,29 @@
+use Rattle.std.proofs.Common.{sym, subst}
+use Rattle.vdisk.specs.Steps.{Keeps}
+use Rattle.volume_inside.specs.Shows.{Area, Kept, ShowsEither}
+use Rattle.volume_tables.proofs.Leaving.{area_same}
+use Rattle.volume_core.specs.Volumes.{disk_of, area_of, view_now}
+use Rattle.volume_core.proofs.volume.Volume.unmount.Goals as goal
+
+pub returns-in-Ok-clause-kept : goal.returns-in-Ok-clause-kept
+returns-in-Ok-clause-kept g c w kept =
+    let v = c.args.self in
+    let u = c.flush.new.self in
+    let done = c.in-Ok.ensures.durable w kept in
+    subst (λ (x : g.row.D.Denot). Kept (area_of v) (g.D.Disk.state x) (view_now v)) (sym c.into_disk.ensures)
+    (subst (λ (a : Area). Kept a (disk_of u) (view_now v))
+    (area_same v.tables u.tables c.flush.ensures.endures.clusters) done.kept)
+
+pub returns-in-Ok-clause-moments : goal.returns-in-Ok-clause-moments
+returns-in-Ok-clause-moments g c w kept =
+    let v = c.args.self in
+    subst (λ (x : g.row.D.Denot). Keeps (disk_of v) (g.D.Disk.state x) (ShowsEither (area_of v) w (view_now v)))
+    (sym c.into_disk.ensures)
+    (c.flush.ensures.endures.moments w kept)
+
+pub returns-in-Err-clause-moments_err : goal.returns-in-Err-clause-moments_err
+returns-in-Err-clause-moments_err g c w kept =
+    let v = c.args.self in
+    subst (λ (x : g.row.D.Denot). Keeps (disk_of v) (g.D.Disk.state x) (ShowsEither (area_of v) w (view_now v)))
+    (sym c.into_disk-in-Err.ensures)
+    (c.flush.ensures.endures.moments w kept)

@@ -1,0 +1,55 @@
+use Rattle.std.proofs.Common.{rules, ◌≡◌, Result, Err, sym, subst}
+use Rattle.plain_volume.specs.Step.{plain, write}
+use Rattle.plain_volume.specs.Replies.{done_reply}
+use Rattle.plain_volume.specs.declared.call.Call.TheVariants.{Write}
+use Rattle.plain_volume.specs.declared.call.Fault.{Fault}
+use Rattle.volume_tables.specs.Tables.{disk_of, view_now}
+use Rattle.volume_files.specs.Lengths.{for_file}
+use Rattle.volume_files.specs.Wants.{IsRepliedOrMemory}
+use Rattle.volume_files.specs.Writing.{write_wants}
+use Rattle.volume_core.specs.Wants.{file_of}
+use Rattle.volume_core.proofs.Causes.{refused_not_failed}
+use Rattle.volume_core.proofs.Wanting.{write_may}
+use Rattle.volume_core.proofs.Written.{unfound_replied, write_replied, write_left}
+use Rattle.volume_core.proofs.volume.Volume.write.Goals as goal
+
+pub returns-in_err-file-clause-failed : goal.returns-in_err-file-clause-failed
+returns-in_err-file-clause-failed g c failed =
+    let v = view_now c.args.self.now.tables in
+    let name = c.args.name.now in
+    let refused : c.from_residual.result ≡ Err c.in_err-file.field-0.0 = search rules in
+    absurd (refused_not_failed v (Write name c.args.at c.args.bytes.now) c.in_err-file.field-0.0
+    (c.in_err-file.ensures.refused (write name c.args.at c.args.bytes.now v)) (cc))
+
+pub returns-in_err-file-clause-reply : goal.returns-in_err-file-clause-reply
+returns-in_err-file-clause-reply g c =
+    let t = c.args.self.now.tables in
+    let name = c.args.name.now in
+    let refused : c.from_residual.result ≡ Err c.in_err-file.field-0.0 = search rules in
+    subst (λ (r : Result (Unit {0}) Fault). IsRepliedOrMemory
+    (plain (view_now t) (Write name c.args.at c.args.bytes.now))
+    (for_file (file_of t name) (λ file. write_wants t file c.args.at c.args.bytes.now))
+    (disk_of t).faults (disk_of t).faults (done_reply r)) (sym refused)
+    (unfound_replied (view_now t) name c.args.at c.args.bytes.now c.in_err-file.field-0.0
+    (for_file (file_of t name) (λ file. write_wants t file c.args.at c.args.bytes.now))
+    (disk_of t).faults (disk_of t).faults c.in_err-file.ensures.refused)
+
+pub returns-clause-reply : goal.returns-clause-reply
+returns-clause-reply g c =
+    let t = c.args.self.now.tables in
+    let u = c.write_plain.new.tables in
+    write_replied t u c.args.self.now.sound c.args.name.now c.in_ok-file.file c.in_ok-file._record
+    c.in_ok-file.ensures.found c.args.at c.args.bytes.now (disk_of t).faults (disk_of u).faults
+    (done_reply c.write_plain.result) (c.write_plain.ensures.reply c.args.name.now (view_now t))
+
+pub returns-clause-left : goal.returns-clause-left
+returns-clause-left g c w kept =
+    let t = c.args.self.now.tables in
+    let u = c.write_plain.new.tables in
+    let s = c.write_plain.ensures in
+    write_left t u c.args.self.now.sound c.args.name.now c.in_ok-file.file c.in_ok-file._record
+    c.in_ok-file.ensures.found c.args.at c.args.bytes.now (disk_of t).faults (disk_of u).faults c.write_plain.result
+    (s.reply c.args.name.now (view_now t)) s.written s.others (s.cells w kept) s.err_inside
+
+pub returns-clause-want : goal.returns-clause-want
+returns-clause-want g c = write_may c.args.self.now.tables c.args.name.now c.args.at c.args.bytes.now

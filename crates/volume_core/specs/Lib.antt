@@ -1,0 +1,5 @@
+pub mod Volumes
+pub mod Wants
+pub mod Replies
+pub mod Sound
+pub mod Bounds

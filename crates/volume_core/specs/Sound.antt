@@ -1,0 +1,82 @@
+-- That tables are sound has one proof at most.
+use Rattle.std.specs.Prelude.{◌≡◌, ℕ, List, [], ◌∷◌, Option, Some, None}
+use Rattle.std.proofs.Props.{props}
+use mathlib.Core.HLevel.{×_prop, Unit-prop, ⊥_prop}
+use Rattle.vdisk.specs.declared.disk.Disk.{Ghosts}
+use Rattle.table_records.specs.declared.records.VolumeRecord.{VolumeRecord}
+use Rattle.table_records.specs.declared.records.FileRecord.{FileRecord}
+use Rattle.table_records.specs.declared.records.Extent.{Extent}
+use Rattle.table_records.specs.declared.records.ResultRecord.{ResultRecord}
+use Rattle.table_records.specs.declared.settings.Settings.{Settings}
+use Rattle.volume_inside.specs.Typed.{Typed, FileBlock}
+use Rattle.volume_inside.specs.Entries.{Each}
+use Rattle.volume_inside.specs.Lists.{IsOut, IsOnce}
+use Rattle.volume_inside.specs.Rules.{IsVolumeRecord, AreSettings, IsResultRecord, RecordsHold, NameHolds}
+use Rattle.volume_inside.specs.Rules.{IsNamedOnce, NamesHold, FileHolds, FilesHold, LiesIn, ExtentHolds, ExtentsHold}
+use Rattle.volume_inside.specs.Rules.{RulesHold}
+use Rattle.volume_files.specs.Sound.{IsSound}
+use Rattle.volume_tables.specs.declared.tables.Tables.{Tables}
+
+each_prop : {K V : Type 0} (P : K → V → Type 0) → ((k : K) (v : V) → IsProp (P k v)) → (es : List (K × V))
+    → IsProp (Each P es)
+each_prop P one [] = Unit-prop
+each_prop P one (e ∷ es) = ×_prop (one e.0 e.1) (each_prop P one es)
+
+volume_record_prop : (v : VolumeRecord) → IsProp (IsVolumeRecord v)
+volume_record_prop v = Prim.hlevel props
+
+settings_prop : (s : Settings) → IsProp (AreSettings s)
+settings_prop s = Prim.hlevel props
+
+result_prop : (r : ResultRecord) → IsProp (IsResultRecord r)
+result_prop r = Prim.hlevel props
+
+records_prop : (t : Typed) → IsProp (RecordsHold t)
+records_prop t = Prim.hlevel (props, volume_record_prop, settings_prop, result_prop)
+
+name_prop : (t : Typed) (name : List ℕ) (id : ℕ) → IsProp (NameHolds t name id)
+name_prop t name id = Prim.hlevel props
+
+once_named_prop : (t : Typed) (id : ℕ) (file : FileRecord) → IsProp (IsNamedOnce t id file)
+once_named_prop t id file = Prim.hlevel props
+
+names_prop : (t : Typed) → IsProp (NamesHold t)
+names_prop t = Prim.hlevel (
+  props,
+  each_prop (NameHolds t) (name_prop t) t.names,
+  each_prop (IsNamedOnce t) (once_named_prop t) t.files,
+)
+
+file_prop : (t : Typed) (id : ℕ) (file : FileRecord) → IsProp (FileHolds t id file)
+file_prop t id file = Prim.hlevel props
+
+files_prop : (t : Typed) → IsProp (FilesHold t)
+files_prop t = each_prop (FileHolds t) (file_prop t) t.files
+
+lies_prop : (k : FileBlock) (e : Extent) (file : Option FileRecord) → IsProp (LiesIn k e file)
+lies_prop k e None = ⊥_prop
+lies_prop k e (Some file) = Prim.hlevel props
+
+extent_prop : (n : ℕ) (t : Typed) (k : FileBlock) (e : Extent) → IsProp (ExtentHolds n t k e)
+extent_prop n t k e = Prim.hlevel (props, lies_prop)
+
+extents_prop : (n : ℕ) (t : Typed) → IsProp (ExtentsHold n t)
+extents_prop n t = each_prop (ExtentHolds n t) (extent_prop n t) t.extents
+
+differ_prop : (x c : ℕ) → IsProp (x ≡ c → ⊥)
+differ_prop x c = Prim.hlevel props
+
+out_prop : (c : ℕ) (xs : List ℕ) → IsProp (IsOut c xs)
+out_prop c [] = Unit-prop
+out_prop c (x ∷ xs) = ×_prop (differ_prop x c) (out_prop c xs)
+
+once_prop : (xs : List ℕ) → IsProp (IsOnce xs)
+once_prop [] = Unit-prop
+once_prop (x ∷ xs) = ×_prop (out_prop x xs) (once_prop xs)
+
+rules_prop : (n : ℕ) (t : Typed) → IsProp (RulesHold n t)
+rules_prop n t = Prim.hlevel (props, records_prop, names_prop, files_prop, extents_prop, once_prop)
+
+module _ {D : Type 0} {d : Ghosts D} where
+  pub sound_prop : (t : Tables D d) → IsProp (IsSound t)
+  sound_prop t = Prim.hlevel (props, rules_prop)

@@ -1,0 +1,86 @@
+//! Files are made, written, cut, renamed and dropped.
+
+ghost use Rattle.std.specs.Prelude.{◌≡◌, false, true, IsErrOf, OnErr};
+ghost use Rattle.vdisk.specs.Causes.{Rose};
+ghost use Rattle.plain_volume.specs.Volume.{Volume as PlainVolume};
+ghost use Rattle.plain_volume.specs.Replies.{done_reply};
+ghost use Rattle.plain_volume.specs.declared.call.Call.TheVariants.{Create, Write, SetLength, Rename, Delete};
+
+use crate::volume::Volume;
+use plain_volume::Fault;
+use vdisk::Disk;
+use volume_files::{find_file, write_plain};
+
+impl<D: Disk> Volume<D> {
+    ghost use Rattle.volume_core.specs.Volumes.{disk_of, view_now, stopped, IsKept, Endures};
+    ghost use Rattle.volume_core.specs.Wants.{wants_of, IsWant};
+    ghost use Rattle.volume_core.specs.Replies.{Replies, RepliesOrMemory, Leaves};
+
+    /// Makes an empty file.
+    pub fn create(&mut self, name: &[u8]) -> Result<(), Fault>
+        requires running { stopped self.old ≡ false }
+        ensures reply { RepliesOrMemory (Create name.now) self.old self.new (done_reply result) }
+        ensures left { Leaves (Create name.now) self.old self.new (done_reply result) }
+        ensures endures { Endures self.old self.new }
+        ensures stops { stopped self.new ≡ true → IsErrOf result Fault.Failed }
+        ensures want { IsWant (Create name.now) (wants_of self.old (Create name.now)) }
+        ensures failed { IsErrOf result Fault.Failed → Rose (disk_of self.old).faults (disk_of self.new).faults }
+    {
+        volume_files::create(&mut self.tables, name)
+    }
+
+    /// Puts bytes at a place of a file, with zeros up to it where the file is shorter. No bytes change nothing.
+    pub fn write(&mut self, name: &[u8], at: u64, bytes: &[u8]) -> Result<(), Fault>
+        requires running { stopped self.old ≡ false }
+        ensures reply { RepliesOrMemory (Write name.now at bytes.now) self.old self.new (done_reply result) }
+        ensures left { (w : PlainVolume) → IsKept self.old w →
+            Leaves (Write name.now at bytes.now) self.old self.new (done_reply result) }
+        ensures unchanged { OnErr result (view_now self.new ≡ view_now self.old) }
+        ensures endures { Endures self.old self.new }
+        ensures stops { stopped self.new ≡ true → IsErrOf result Fault.Failed }
+        ensures want { IsWant (Write name.now at bytes.now) (wants_of self.old (Write name.now at bytes.now)) }
+        ensures failed { IsErrOf result Fault.Failed → Rose (disk_of self.old).faults (disk_of self.new).faults }
+    {
+        let (file, _record) = find_file(&self.tables, name)?;
+        write_plain(&mut self.tables, file, at, bytes)
+    }
+
+    /// Cuts a file to a length, or extends it by zeros. It takes no memory.
+    pub fn set_length(&mut self, name: &[u8], length: u64) -> Result<(), Fault>
+        requires running { stopped self.old ≡ false }
+        ensures reply { Replies (SetLength name.now length) self.old self.new (done_reply result) }
+        ensures left { Leaves (SetLength name.now length) self.old self.new (done_reply result) }
+        ensures endures { Endures self.old self.new }
+        ensures stops { stopped self.new ≡ true → IsErrOf result Fault.Failed }
+        ensures want { IsWant (SetLength name.now length) (wants_of self.old (SetLength name.now length)) }
+        ensures failed { IsErrOf result Fault.Failed → Rose (disk_of self.old).faults (disk_of self.new).faults }
+    {
+        volume_files::set_length(&mut self.tables, name, length)
+    }
+
+    /// Gives a file another name, which no file has, its own included.
+    pub fn rename(&mut self, from: &[u8], to: &[u8]) -> Result<(), Fault>
+        requires running { stopped self.old ≡ false }
+        ensures reply { RepliesOrMemory (Rename from.now to.now) self.old self.new (done_reply result) }
+        ensures left { Leaves (Rename from.now to.now) self.old self.new (done_reply result) }
+        ensures endures { Endures self.old self.new }
+        ensures stops { stopped self.new ≡ true → IsErrOf result Fault.Failed }
+        ensures want { IsWant (Rename from.now to.now) (wants_of self.old (Rename from.now to.now)) }
+        ensures failed { IsErrOf result Fault.Failed → Rose (disk_of self.old).faults (disk_of self.new).faults }
+    {
+        volume_files::rename(&mut self.tables, from, to)
+    }
+
+    /// Drops a file. It takes no memory.
+    pub fn delete(&mut self, name: &[u8]) -> Result<(), Fault>
+        requires running { stopped self.old ≡ false }
+        ensures reply { Replies (Delete name.now) self.old self.new (done_reply result) }
+        ensures left { Leaves (Delete name.now) self.old self.new (done_reply result) }
+        ensures endures { Endures self.old self.new }
+        ensures stops { stopped self.new ≡ true → IsErrOf result Fault.Failed }
+        ensures want { IsWant (Delete name.now) (wants_of self.old (Delete name.now)) }
+        ensures failed { IsErrOf result Fault.Failed → Rose (disk_of self.old).faults (disk_of self.new).faults }
+    {
+        volume_files::delete(&mut self.tables, name)
+    }
+}

@@ -1,0 +1,48 @@
+//! Calls become durable.
+
+ghost use Rattle.std.specs.Prelude.{◌≡◌, ◌⊎◌, false, true, OnOk, OnErr, IsErrOf};
+ghost use Rattle.vdisk.specs.Causes.{Rose};
+ghost use Rattle.plain_volume.specs.Volume.{Volume as PlainVolume};
+ghost use Rattle.plain_volume.specs.Replies.{done_reply};
+ghost use Rattle.plain_volume.specs.declared.call.Call.TheVariants.{Flush};
+
+use crate::volume::Volume;
+use plain_volume::Fault;
+use vdisk::Disk;
+
+impl<D: Disk> Volume<D> {
+    ghost use Rattle.volume_core.specs.Volumes.{device_of, disk_of, view_now, due_of, stopped, IsKept, Endures};
+    ghost use Rattle.volume_core.specs.Wants.{wants_of, IsWant};
+    ghost use Rattle.volume_core.specs.Replies.{Replies, Leaves};
+
+    /// Makes all calls so far durable. Where nothing is due, as after a flush that answered Ok, the disk is
+    /// not called.
+    pub fn flush(&mut self) -> Result<(), Fault>
+        requires running { stopped self.old ≡ false }
+        ensures reply { Replies Flush self.old self.new (done_reply result) }
+        ensures left { Leaves Flush self.old self.new (done_reply result) }
+        ensures durable { (w : PlainVolume) → IsKept self.old w → OnOk result (IsKept self.new (view_now self.old)) }
+        ensures nothing_due { OnOk result (due_of self.new ≡ 0) }
+        ensures idle { due_of self.old ≡ 0 → device_of self.new ≡ device_of self.old }
+        ensures endures { Endures self.old self.new }
+        ensures stops { stopped self.new ≡ true → IsErrOf result Fault.Failed }
+        ensures want { IsWant Flush (wants_of self.old Flush) }
+        ensures failed { IsErrOf result Fault.Failed → Rose (disk_of self.old).faults (disk_of self.new).faults }
+    {
+        self.tables.commit()
+    }
+
+    /// The disk's moment.
+    pub fn moment(&self) -> u64
+        ensures { result ≡ (disk_of self.now).moment }
+    {
+        self.tables.moment()
+    }
+
+    /// Whether a write or a sync has failed. Then no call may be made but this one, `moment` and `into_disk`.
+    pub fn is_stopped(&self) -> bool
+        ensures { result ≡ stopped self.now }
+    {
+        self.tables.is_stopped()
+    }
+}

@@ -1,0 +1,19 @@
+//! Laws of a volume, each the contract of an empty function.
+
+ghost use Rattle.std.specs.Prelude.{◌≡◌, ℕ, Some};
+ghost use Rattle.plain_volume.specs.declared.call.Call.{Call};
+ghost use Rattle.plain_volume.specs.declared.call.Fault.{Fault};
+ghost use Rattle.volume_core.specs.Bounds.{HasSpent, IsSpent};
+ghost use Rattle.volume_core.specs.Wants.{wants_of};
+
+use crate::volume::Volume;
+use vdisk::Disk;
+
+/// Where a resource is wanting for a call, it is spent: what the volume has spent so far and what the call asks for
+/// tell it, in terms of its files and of counts of clusters, ids and epochs.
+pub fn what_is_wanting_is_spent<D: Disk>(volume: &Volume<D>)
+    ensures { (b i e : ℕ) (call : Call) (fault : Fault) → HasSpent volume.now b i e →
+        wants_of volume.now call ≡ Some fault → IsSpent volume.now b i call fault }
+{
+    let _tables = &volume.tables;
+}

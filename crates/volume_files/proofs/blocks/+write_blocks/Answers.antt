@@ -1,0 +1,145 @@
+use Rattle.std.proofs.Common.{◌≡◌, ◌≤◌, ◌<◌, ◌+◌, ◌-◌, ◌*◌, ℕ, length, sym, ◌∙◌, ap, subst, arith, refl}
+use Rattle.std.specs.Prelude.{Option, IsSome}
+use Rattle.std.specs.FinMap.{find}
+use Rattle.cluster_space.specs.declared.state.State.TheVariants.{Used, Deferred}
+use Rattle.table_records.specs.Keys.{pair_cmp}
+use Rattle.table_records.specs.declared.records.Extent.{Extent}
+use Rattle.volume_inside.specs.Inside.{block_of}
+use Rattle.volume_inside.specs.Layout.{first_data_cluster, half_bytes}
+use Rattle.volume_inside.specs.Typed.{Typed, FileBlock}
+use Rattle.volume_tables.specs.Clusters.{HasState}
+use Rattle.volume_tables.specs.Tables.{tables_now, inside_now, new_bytes, checkpoint_of, disk_of}
+use Rattle.volume_tables.proofs.Leaving.{leaves_then, found_used}
+use Rattle.volume_files.specs.Needs.{missing}
+use Rattle.volume_files.specs.Writing.{blocks_up_to}
+use Rattle.volume_files.proofs.Extents.{found_put}
+use Rattle.volume_files.proofs.Setting.{sorted_now, held_now}
+use Rattle.volume_files.proofs.States.{places_differ, used_is_not_deferred}
+use Rattle.volume_files.proofs.Touched.{fits_next, extents_then, cells_then, put_covers, cell_apart}
+use Rattle.volume_files.proofs.blocks.+write_blocks.Goals as goal
+
+pub write_blocks-requires : goal.write_blocks-requires
+write_blocks-requires g t c κs within =
+    let a = c.args.tables.now in
+    let u = c.write_block.new.tables in
+    let to : ℕ = c.args.at + length c.args.bytes.now in
+    let w = c.in_ok-write_block.ensures in
+    let low : 4096 * c.args.index < to = omega arith in
+    let fewer : blocks_up_to to (c.args.index + 1) + 1 ≡ blocks_up_to to c.args.index = omega arith in
+    let fits : checkpoint_of u + 24 * missing (tables_now u) c.args.file (c.args.index + 1)
+    (blocks_up_to to (c.args.index + 1)) ≤ half_bytes a.clusters =
+    fits_next (tables_now a) (tables_now u) c.args.file c.args.index to (checkpoint_of a) (checkpoint_of u)
+    (half_bytes a.clusters) c.in_ok-write_block.field-0 low w.ok c.requires.fits
+    (w.checkpoint ∙ ap (λ (o : Option Extent). checkpoint_of a + new_bytes o 24) c.get_extent-was.ensures) in (
+      omega arith,
+      (
+        within,
+        (
+          w.runs,
+          (
+            w.rules,
+            (
+              c.requires.short,
+              (
+                c.requires.reach,
+                (
+                  c.requires.most,
+                  (
+                    omega (arith, c.requires.from_first),
+                    (
+                      omega (arith, fewer, w.free, c.requires.clusters),
+                      (
+                        omega (arith, fewer, w.staged, c.requires.room),
+                        subst (λ (n : ℕ). checkpoint_of u + 24 * missing (tables_now u) c.args.file
+                            (c.args.index + 1) (blocks_up_to to (c.args.index + 1)) ≤ half_bytes n)
+                            (sym w.leaves.clusters) fits,
+                      ),
+                    ),
+                  ),
+                ),
+              ),
+            ),
+          ),
+        ),
+      ),
+    )
+
+pub take_back-requires-clause-there : goal.take_back-requires-clause-there
+take_back-requires-clause-there g t c =
+    let k : FileBlock = (c.args.file, c.args.index) in
+    let e = c.in_ok-write_block.field-0 in
+    let found = ap (λ (q : Typed). find pair_cmp k q.extents) (c.in-Err.ensures.err ∙ c.in_ok-write_block.ensures.ok)
+    ∙ found_put k e (tables_now c.args.tables.now).extents in
+    subst (λ (o : Option Extent). IsSome o) (sym found) refl
+
+pub take_back-requires-clause-deferred : goal.take_back-requires-clause-deferred
+take_back-requires-clause-deferred g t c o was =
+    let has = c.in_ok-write_block.ensures.replaced o was in
+    let clusters = c.write_blocks.ensures.leaves.clusters in
+    let there : first_data_cluster c.write_blocks.new.tables.clusters ≡ first_data_cluster
+    c.write_block.new.tables.clusters = ap first_data_cluster clusters in
+    subst (λ (n : ℕ). HasState n c.write_blocks.new.tables.space Deferred o.cluster) (sym clusters)
+    (record {
+      from_first = has.from_first;
+      is = c.in-Err.ensures.deferred
+          (o.cluster - first_data_cluster c.write_block.new.tables.clusters) has.is;
+    })
+
+pub returns-in-Ok-clause-ok : goal.returns-in-Ok-clause-ok
+returns-in-Ok-clause-ok g t c =
+    extents_then c.args.file c.args.index (c.args.at + length c.args.bytes.now) (tables_now c.args.tables.now)
+    (tables_now c.write_block.new.tables) (tables_now c.write_blocks.new.tables)
+    c.in_ok-write_block.field-0 (omega arith) c.in_ok-write_block.ensures.ok c.in-Ok.ensures.ok
+
+pub returns-in-Ok-clause-others : goal.returns-in-Ok-clause-others
+returns-in-Ok-clause-others g t c other p record_of differ =
+    let image = (disk_of c.write_block.new.tables).image in
+    c.in-Ok.ensures.others other p record_of differ
+    ∙ cell_apart (inside_now c.args.tables.now) (inside_now c.write_block.new.tables) c.args.file c.args.index
+    (block_of c.in_ok-write_block.field-0 image) other p record_of differ
+    c.in_ok-write_block.ensures.inside
+
+pub returns-in-Ok-clause-cells : goal.returns-in-Ok-clause-cells
+returns-in-Ok-clause-cells g t c stored is p low =
+    let a = c.args.tables.now in
+    let u = c.write_block.new.tables in
+    let e = c.in_ok-write_block.field-0 in
+    c.in-Ok.ensures.cells stored (c.write_block.ensures.leaves.tables stored is) p low
+    ∙ cells_then c.args.file c.args.index c.args.at c.args.bytes.now c.args.grown c.get_extent-was.result
+    (tables_now a) (disk_of a).image (block_of e (disk_of u).image) (inside_now u)
+    (put_covers a.clusters c.args.file c.args.grown (tables_now a) c.requires.rules) (sym c.get_extent-was.ensures)
+    c.in_ok-write_block.ensures.inside (c.in_ok-write_block.ensures.written stored is) p low
+
+pub returns-in-Ok-clause-leaves : goal.returns-in-Ok-clause-leaves
+returns-in-Ok-clause-leaves g t c =
+    leaves_then g.met.D.Disk.same_next c.args.tables.now c.write_block.new.tables c.write_blocks.new.tables
+    c.write_block.ensures.leaves c.write_blocks.ensures.leaves
+
+pub returns-in-Err-clause-err : goal.returns-in-Err-clause-err
+returns-in-Err-clause-err g t c =
+    let a = c.args.tables.now in
+    c.take_back.ensures.tables (tables_now a) c.in_ok-write_block.field-0 (sorted_now a) (sym c.get_extent-was.ensures)
+    (c.in-Err.ensures.err ∙ c.in_ok-write_block.ensures.ok)
+
+pub returns-in-Err-clause-leaves : goal.returns-in-Err-clause-leaves
+returns-in-Err-clause-leaves g t c =
+    let next = g.met.D.Disk.same_next in
+    leaves_then next c.args.tables.now c.write_block.new.tables c.take_back.new.tables c.write_block.ensures.leaves
+    (leaves_then next c.write_block.new.tables c.write_blocks.new.tables c.take_back.new.tables
+    c.write_blocks.ensures.leaves c.take_back.ensures.leaves)
+
+pub returns-in-Err-clause-deferred : goal.returns-in-Err-clause-deferred
+returns-in-Err-clause-deferred g t c k is =
+    let a = c.args.tables.now in
+    let key : FileBlock = (c.args.file, c.args.index) in
+    let clusters : c.write_blocks.new.tables.clusters ≡ a.clusters = c.write_blocks.ensures.leaves.clusters
+    ∙ c.write_block.ensures.leaves.clusters in
+    let first : first_data_cluster c.write_blocks.new.tables.clusters ≡ first_data_cluster a.clusters = ap
+    first_data_cluster clusters in
+    c.take_back.ensures.deferred k (c.in-Err.ensures.deferred k (c.write_block.ensures.fewer.deferred k is))
+    (λ o was same.
+    let has = found_used a.clusters key o a.space (tables_now a) (held_now a) a.spaces
+    (sym c.get_extent-was.ensures ∙ was) in
+    let place : o.cluster - first_data_cluster a.clusters ≡ k = omega (arith, same, first, has.from_first) in
+    places_differ a.space (o.cluster - first_data_cluster a.clusters) k Used Deferred used_is_not_deferred has.is is
+    place)

@@ -1,0 +1,48 @@
+use Rattle.std.proofs.Common.{◌≡◌, ◌+◌, length, sym, subst}
+use Rattle.volume_inside.specs.Typed.{Typed}
+use Rattle.volume_tables.specs.Tables.{tables_now, clusters_in}
+use Rattle.volume_files.specs.Names.{AreShort}
+use Rattle.volume_files.proofs.Endured.{endures_leaves}
+use Rattle.volume_files.proofs.Found.{lawful_short}
+use Rattle.volume_files.proofs.GoneFile.{view_left_gone, sound_gone}
+use Rattle.volume_files.proofs.OneName.{short_names}
+use Rattle.volume_files.proofs.Resized.{small_id}
+use Rattle.volume_files.proofs.deleting.delete.Goals as goal
+
+pub drop_all-requires-clause-short : goal.drop_all-requires-clause-short
+drop_all-requires-clause-short g c = lawful_short c.args.name.now c.in_ok-id.ensures.found.lawful
+
+pub drop_all-requires-clause-names : goal.drop_all-requires-clause-names
+drop_all-requires-clause-names g c =
+    let m = c.make_room.new.tables in
+    short_names (tables_now m) (tables_now m).names c.make_room.ensures.sound.rules.names.names
+
+pub drop_all-requires-clause-id : goal.drop_all-requires-clause-id
+drop_all-requires-clause-id g c =
+    let t = c.args.tables.now in
+    small_id (clusters_in t) (tables_now t) c.requires.sound.rules c.in_ok-id.id c.in_ok-id.field-0-1
+    c.in_ok-id.ensures.found.there
+
+pub returns-clause-left : goal.returns-clause-left
+returns-clause-left g c =
+    let t = c.args.tables.now in
+    let m = c.make_room.new.tables in
+    let room = c.make_room.ensures in
+    view_left_gone t m c.drop_all.new.tables c.args.name.now c.in_ok-id.id c.in_ok-id.field-0-1 c.in_ok-id.ensures.found
+    room.now room.inside room.sound
+    (316 + length c.args.name.now) c.drop_all.ensures.stages c.drop_all.ensures.tables
+
+pub returns-clause-sound : goal.returns-clause-sound
+returns-clause-sound g c =
+    let t = c.args.tables.now in
+    let m = c.make_room.new.tables in
+    let room = c.make_room.ensures in
+    sound_gone t m c.drop_all.new.tables c.args.name.now c.in_ok-id.id c.in_ok-id.field-0-1 c.in_ok-id.ensures.found
+    room.now room.inside room.sound
+    (316 + length c.args.name.now) c.drop_all.ensures.stages c.drop_all.ensures.tables
+
+pub returns-clause-endures : goal.returns-clause-endures
+returns-clause-endures g c =
+    endures_leaves g.met.D.Disk.same_next c.args.tables.now c.make_room.new.tables c.drop_all.new.tables
+    c.make_room.ensures.endures
+    c.in_ok-make_room.ensures.runs c.drop_all.ensures.stages.leaves

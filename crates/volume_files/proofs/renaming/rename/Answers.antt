@@ -1,0 +1,79 @@
+use Rattle.std.proofs.Common.{◌≡◌, ◌+◌, ℕ, length, Err, Result, inl, sym, ap, subst, rules}
+use Rattle.plain_volume.specs.Replies.{done_reply}
+use Rattle.plain_volume.specs.Step.{Outcome, plain}
+use Rattle.plain_volume.specs.Volume.{Volume, with_file, without_file}
+use Rattle.plain_volume.specs.declared.call.Call.TheVariants.{Rename}
+use Rattle.plain_volume.specs.declared.call.Fault.{Fault}
+use Rattle.volume_inside.specs.View.{file_cells}
+use Rattle.volume_tables.specs.Tables.{tables_now, inside_now, view_now, disk_of}
+use Rattle.volume_files.specs.Needs.{rename_needs}
+use Rattle.volume_files.specs.Wants.{wanting, is_late, IsRepliedOrMemory}
+use Rattle.volume_files.proofs.Endured.{endures_leaves}
+use Rattle.volume_files.proofs.Finished.{finished_reply, finished_left}
+use Rattle.volume_files.proofs.OneName.{short_names}
+use Rattle.volume_files.proofs.OtherName.{answered_renamed, view_put, view_unput, sound_put}
+use Rattle.volume_files.proofs.Wanted.{replied_want}
+use Rattle.volume_files.proofs.renaming.rename.Goals as goal
+
+pub returns-in_err-make_room-clause-reply : goal.returns-in_err-make_room-clause-reply
+returns-in_err-make_room-clause-reply g c =
+    let t = c.args.tables.now in
+    let u = c.make_room.new.tables in
+    let from = c.args.from.now in
+    let to = c.args.to.now in
+    let fault = c.in_err-make_room.field-0.0 in
+    let is : c.from_residual-in_err-make_room.result ≡ Err fault = search rules in
+    let late = ap (λ (o : Outcome). is_late o) (answered_renamed t from to c.in_ok-id.id c.in_ok-id.ensures.found) in
+    subst (λ (r : Result (Unit {0}) Fault). IsRepliedOrMemory (plain (view_now t) (Rename from to))
+    (wanting t (rename_needs from to)) (disk_of t).faults (disk_of u).faults (done_reply r)) (sym is)
+    (inl (replied_want t u (rename_needs from to)
+    (plain (view_now t) (Rename from to)) late fault c.in_err-make_room.ensures.refused))
+
+pub put_name-requires-clause-names : goal.put_name-requires-clause-names
+put_name-requires-clause-names g c =
+    let m = c.make_room.new.tables in
+    short_names (tables_now m) (tables_now m).names c.make_room.ensures.sound.rules.names.names
+
+pub returns-clause-reply : goal.returns-clause-reply
+returns-clause-reply g c =
+    let t = c.args.tables.now in
+    let p = c.put_name.new.tables in
+    let from = c.args.from.now in
+    let to = c.args.to.now in
+    let id = c.in_ok-id.id in
+    let after : Volume = with_file to (file_cells (inside_now t) id) (without_file from (view_now t)) in
+    finished_reply (view_now t) after (Rename from to) (answered_renamed t from to id c.in_ok-id.ensures.found)
+    (wanting t (rename_needs from to)) (disk_of t).faults
+    (disk_of p).faults c.in_ok-make_room.ensures.none c.put_name.result c.put_name.ensures.refused
+
+pub returns-clause-left : goal.returns-clause-left
+returns-clause-left g c =
+    let t = c.args.tables.now in
+    let m = c.make_room.new.tables in
+    let p = c.put_name.new.tables in
+    let from = c.args.from.now in
+    let to = c.args.to.now in
+    let id = c.in_ok-id.id in
+    let is = c.in_ok-id.ensures.found in
+    let room = c.make_room.ensures in
+    let put = c.put_name.ensures in
+    let most : ℕ = 276 + (length from + length to) in
+    let after : Volume = with_file to (file_cells (inside_now t) id) (without_file from (view_now t)) in
+    finished_left (view_now t) after (Rename from to) (answered_renamed t from to id is) (view_now p) c.put_name.result
+    (view_put t m p from to id is room.now room.inside room.sound most put.stages c.put_name.result put.ok put.err)
+    (view_unput t m p from to id is room.now room.inside room.sound most put.stages c.put_name.result put.ok put.err)
+
+pub returns-clause-sound : goal.returns-clause-sound
+returns-clause-sound g c =
+    let room = c.make_room.ensures in
+    let put = c.put_name.ensures in
+    sound_put c.args.tables.now c.make_room.new.tables c.put_name.new.tables c.args.from.now c.args.to.now c.in_ok-id.id
+    c.in_ok-id.ensures.found
+    room.now room.inside room.sound (276 + (length c.args.from.now + length c.args.to.now)) put.stages c.put_name.result
+    put.ok put.err
+
+pub returns-clause-endures : goal.returns-clause-endures
+returns-clause-endures g c =
+    endures_leaves g.met.D.Disk.same_next c.args.tables.now c.make_room.new.tables c.put_name.new.tables
+    c.make_room.ensures.endures
+    c.in_ok-make_room.ensures.runs c.put_name.ensures.stages.leaves

@@ -1,0 +1,40 @@
+use Rattle.std.proofs.Common.{◌≤◌, arith}
+use Rattle.plain_volume.specs.declared.limits.TheConstants.{MOST_BYTES_OF_A_FILE}
+use Rattle.volume_tables.specs.Tables.{tables_now, clusters_in}
+use Rattle.volume_files.specs.Needs.{length_needs}
+use Rattle.volume_files.proofs.Endured.{endures_leaves}
+use Rattle.volume_files.proofs.Resized.{small_id, sound_resized, view_left}
+use Rattle.volume_files.proofs.resizing.set_length.Goals as goal
+
+pub resize-requires-clause-id : goal.resize-requires-clause-id
+resize-requires-clause-id g c =
+    let t = c.args.tables.now in
+    small_id (clusters_in t) (tables_now t) c.requires.sound.rules c.in_ok-id.id c.in_ok-id.file
+    c.in_ok-id.ensures.found.there
+
+pub returns-clause-left : goal.returns-clause-left
+returns-clause-left g c =
+    let t = c.args.tables.now in
+    let u = c.make_room.new.tables in
+    let few : c.args.length ≤ MOST_BYTES_OF_A_FILE = omega arith in
+    view_left t c.args.name.now c.args.length c.in_ok-id.id c.in_ok-id.file c.in_ok-id.ensures.found u
+    c.resize.new.tables c.make_room.ensures.now c.make_room.ensures.inside
+    c.make_room.ensures.sound c.in_ok-make_room.ensures.runs few
+    (length_needs (tables_now u) c.in_ok-id.id c.in_ok-id.file.length c.args.length).records
+    c.resize.ensures.stages c.resize.ensures.tables
+
+pub returns-clause-sound : goal.returns-clause-sound
+returns-clause-sound g c =
+    let t = c.args.tables.now in
+    let u = c.make_room.new.tables in
+    let few : c.args.length ≤ MOST_BYTES_OF_A_FILE = omega arith in
+    sound_resized t c.args.name.now c.args.length c.in_ok-id.id c.in_ok-id.file c.in_ok-id.ensures.found u
+    c.resize.new.tables c.make_room.ensures.now c.make_room.ensures.inside
+    c.make_room.ensures.sound c.in_ok-make_room.ensures.runs few
+    (length_needs (tables_now u) c.in_ok-id.id c.in_ok-id.file.length c.args.length).records
+    c.resize.ensures.stages c.resize.ensures.tables
+
+pub returns-clause-endures : goal.returns-clause-endures
+returns-clause-endures g c =
+    endures_leaves g.met.D.Disk.same_next c.args.tables.now c.make_room.new.tables c.resize.new.tables
+    c.make_room.ensures.endures c.in_ok-make_room.ensures.runs c.resize.ensures.stages.leaves

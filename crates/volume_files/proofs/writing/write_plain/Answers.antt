@@ -1,0 +1,41 @@
+use Rattle.std.proofs.Common.{◌<◌, length, ◌∙◌, ap, rules, arith}
+use Rattle.std.proofs.lemmas.Result.{on_ok_weaker}
+use Rattle.plain_volume.specs.Volume.{overwritten, with_file}
+use Rattle.plain_volume.specs.Step.{write}
+use Rattle.volume_inside.specs.Inside.{Inside}
+use Rattle.volume_inside.specs.View.{file_cells}
+use Rattle.volume_tables.specs.Tables.{tables_now, inside_now, disk_of}
+use Rattle.volume_files.specs.Writing.{write_wants}
+use Rattle.volume_files.proofs.Endured.{endures_leaves}
+use Rattle.volume_files.proofs.WriteReplies.{done, file_is_whole, reply_there, wants_some, still_kept}
+use Rattle.volume_files.proofs.writing.write_plain.Goals as goal
+
+pub returns-clause-reply : goal.returns-clause-reply
+returns-clause-reply g c name v =
+    let t = c.args.tables.now in
+    let bytes = c.args.bytes.now in
+    let cells = file_cells (inside_now t) c.args.file in
+    let some : 0 < length bytes = search rules in
+    let whole = file_is_whole t.clusters (tables_now t) (disk_of t).image c.args.file c.requires.sound.rules in
+    reply_there (write name c.args.at bytes v cells) (with_file name (overwritten c.args.at bytes cells) v)
+    (write_wants t c.args.file c.args.at bytes) (disk_of t).faults (disk_of c.make_room_for_write.new.tables).faults
+    (disk_of c.write_with_room.new.tables).faults
+    c.write_with_room.result (done name c.args.at bytes v cells (omega arith) (omega arith) whole)
+    (wants_some t c.args.file c.args.at bytes some ∙ c.in_ok-make_room_for_write.ensures.none)
+    c.make_room_for_write.ensures.endures.later c.write_with_room.ensures.refused c.write_with_room.ensures.failed
+
+pub returns-clause-cells : goal.returns-clause-cells
+returns-clause-cells g c w kept =
+    let t = c.args.tables.now in
+    let b = c.make_room_for_write.new.tables in
+    let still = still_kept t b w c.make_room_for_write.ensures.endures c.in_ok-make_room_for_write.ensures.runs kept in
+    on_ok_weaker c.write_with_room.result
+    (λ cells. cells ∙ ap (λ (i : Inside). overwritten c.args.at c.args.bytes.now (file_cells i c.args.file))
+    c.make_room_for_write.ensures.inside)
+    (c.write_with_room.ensures.cells still.0 still.1)
+
+pub returns-clause-endures : goal.returns-clause-endures
+returns-clause-endures g c =
+    endures_leaves g.met.D.Disk.same_next c.args.tables.now c.make_room_for_write.new.tables
+    c.write_with_room.new.tables c.make_room_for_write.ensures.endures
+    c.in_ok-make_room_for_write.ensures.runs c.write_with_room.ensures.leaves

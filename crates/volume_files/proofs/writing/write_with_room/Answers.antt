@@ -1,0 +1,78 @@
+use Rattle.std.proofs.Common.{◌+◌, ℕ, length, sym, ◌∙◌, ap, subst, arith}
+use Rattle.std.specs.Prelude.{Option, IsSome}
+use Rattle.std.specs.Ordering.{nat_cmp}
+use Rattle.std.specs.FinMap.{find}
+use Rattle.table_records.specs.declared.records.FileRecord.{FileRecord}
+use Rattle.volume_inside.specs.Inside.{inside_at}
+use Rattle.volume_inside.specs.Typed.{Typed}
+use Rattle.volume_inside.specs.Changes.{with_file}
+use Rattle.volume_inside.specs.Rules.{RulesHold}
+use Rattle.volume_tables.specs.Tables.{tables_now, disk_of}
+use Rattle.volume_tables.proofs.Framing.{on_err_any}
+use Rattle.volume_tables.proofs.Leaving.{leaves_then}
+use Rattle.volume_files.proofs.Setting.{held_now, on_ok_there}
+use Rattle.volume_files.proofs.Written.{rules_grown, grown_short, cells_written, others_written}
+use Rattle.volume_files.proofs.writing.write_with_room.Goals as goal
+
+pub write_blocks-requires-clause-rules : goal.write_blocks-requires-clause-rules
+write_blocks-requires-clause-rules g c =
+    let t = c.args.tables.now in
+    let was = c.unwrap-grown.result in
+    let to : ℕ = c.args.at + length c.args.bytes.now in
+    let found = sym c.get_file.ensures ∙ c.unwrap-grown.ensures in
+    subst (λ (n : ℕ). RulesHold t.clusters (with_file c.args.file (record was { length = n }) (tables_now t)))
+    (sym c.max.ensures)
+    (rules_grown t.clusters (tables_now t) c.requires.sound.rules c.args.file to was found c.requires.within)
+
+pub write_blocks-requires-clause-most : goal.write_blocks-requires-clause-most
+write_blocks-requires-clause-most g c =
+    let t = c.args.tables.now in
+    let was = c.unwrap-grown.result in
+    let to : ℕ = c.args.at + length c.args.bytes.now in
+    let found = sym c.get_file.ensures ∙ c.unwrap-grown.ensures in
+    let short = grown_short t.clusters (tables_now t) c.requires.sound.rules c.args.file to was found
+    c.requires.within in
+    omega (arith, short, c.max.ensures)
+
+pub returns-in_err-write_blocks-clause-err_inside : goal.returns-in_err-write_blocks-clause-err_inside
+returns-in_err-write_blocks-clause-err_inside g c =
+    let t = c.args.tables.now in
+    let s = c.write_blocks.new.tables in
+    on_err_any c.from_residual.result
+    (ap (λ (q : Typed). inside_at q (disk_of s).image) c.in_err-write_blocks.ensures.err
+    ∙ c.write_blocks.ensures.frame (tables_now t) (held_now t).1.free_now)
+
+pub returns-clause-cells : goal.returns-clause-cells
+returns-clause-cells g c stored is =
+    let t = c.args.tables.now in
+    let b = c.write_blocks.new.tables in
+    let s = c.set_file.new.self in
+    let was = c.unwrap-grown.result in
+    let bytes = c.args.bytes.now in
+    let grown : FileRecord = record was { length = c.max.result } in
+    let found = sym c.get_file.ensures ∙ c.unwrap-grown.ensures in
+    let there = subst (λ (o : Option FileRecord). IsSome o) (sym
+    (ap (λ (q : Typed). find nat_cmp c.args.file q.files) c.in_ok-write_blocks.ensures.ok.rest)) c.requires.there in
+    let set = on_ok_there c.set_file.result (c.set_file.ensures.set.in_place there) c.set_file.ensures.ok in
+    cells_written t b s c.args.file c.args.at grown set c.set_file.ensures.set.image t.clusters was bytes
+    c.requires.sound.rules found
+    (λ i. record was { length = c.max.ensures i }) c.requires.some (c.in_ok-write_blocks.ensures.cells stored is)
+
+pub returns-clause-others : goal.returns-clause-others
+returns-clause-others g c =
+    let t = c.args.tables.now in
+    let b = c.write_blocks.new.tables in
+    let s = c.set_file.new.self in
+    let was = c.unwrap-grown.result in
+    let grown : FileRecord = record was { length = c.max.result } in
+    let there = subst (λ (o : Option FileRecord). IsSome o) (sym
+    (ap (λ (q : Typed). find nat_cmp c.args.file q.files) c.in_ok-write_blocks.ensures.ok.rest)) c.requires.there in
+    let set = on_ok_there c.set_file.result (c.set_file.ensures.set.in_place there) c.set_file.ensures.ok in
+    others_written t b s c.args.file c.args.at grown set c.set_file.ensures.set.image
+    (ap (λ (q : Typed). q.files) c.in_ok-write_blocks.ensures.ok.rest)
+    c.in_ok-write_blocks.ensures.others
+
+pub returns-clause-leaves : goal.returns-clause-leaves
+returns-clause-leaves g c =
+    leaves_then g.met.D.Disk.same_next c.args.tables.now c.write_blocks.new.tables c.set_file.new.self
+    c.write_blocks.ensures.leaves c.set_file.ensures.leaves

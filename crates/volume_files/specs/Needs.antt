@@ -1,0 +1,70 @@
+-- What each call asks for.
+use Rattle.std.specs.Prelude.{◌+◌, ◌-◌, ◌*◌, ◌/◌, ◌%◌, ◌&&◌, ℕ, zero, suc, Bool, true, false, cond, nat_lt, List}
+use Rattle.std.specs.Prelude.{length, Option, Some, None}
+use Rattle.std.specs.FinMap.{find}
+use Rattle.table_records.specs.Keys.{pair_cmp}
+use Rattle.table_records.specs.declared.records.Extent.{Extent}
+use Rattle.volume_inside.specs.Typed.{Typed}
+use Rattle.volume_files.specs.Wants.{Needs}
+
+-- a new file: an id, a record of the file and one of its name; the record of the file may be taken back
+abbrev pub create_needs : List ℕ → Needs
+create_needs name = record { draws = true; grows = 52 + length name; records = 93 + length name; clusters = 0 }
+
+-- another name: its record, before the old one is dropped
+abbrev pub rename_needs : List ℕ → List ℕ → Needs
+rename_needs from to = record {
+  draws = false;
+  grows = 14 + length to;
+  records = 276 + (length from + length to);
+  clusters = 0;
+}
+
+-- a name, a file and its extents are dropped
+abbrev pub delete_needs : List ℕ → Needs
+delete_needs name = record { draws = false; grows = 0; records = 316 + length name; clusters = 0 }
+
+-- the clusters of a file that a range touches, and the first of them
+abbrev pub first_touched : ℕ → ℕ
+first_touched at = at / 4096
+
+abbrev pub touched : ℕ → ℕ → ℕ
+touched at count = (at + count - 1) / 4096 + 1 - at / 4096
+
+abbrev pub one_if_none : {V : Type 0} → Option V → ℕ
+one_if_none None = 1
+one_if_none (Some v) = 0
+
+-- of n blocks of a file from one on, those that have no extent
+abbrev pub missing : Typed → ℕ → ℕ → ℕ → ℕ
+missing t file first zero = 0
+missing t file first (suc n) = one_if_none (find pair_cmp (file, first) t.extents) + missing t file (first + 1) n
+
+-- bytes in a file: each cluster that is touched is written anew and gets its extent, which may be taken back, as where
+-- there is no memory for a later one; and the record of the file
+abbrev pub write_needs : Typed → ℕ → ℕ → ℕ → Needs
+write_needs t file at count = record {
+  draws = false;
+  grows = 24 * missing t file (first_touched at) (touched at count);
+  records = 38 + 55 * touched at count;
+  clusters = touched at count;
+}
+
+-- whether so many bytes of a block are fewer than its extent has
+abbrev pub is_cut : ℕ → Option Extent → Bool
+is_cut rest None = false
+is_cut rest (Some e) = nat_lt 0 rest && nat_lt rest e.valid
+
+-- 24 where a file of this length is cut inside the bytes of an extent, which is then set anew
+abbrev pub set_at_end : Typed → ℕ → ℕ → ℕ
+set_at_end t file len = cond (is_cut (len % 4096) (find pair_cmp (file, len / 4096) t.extents)) 24 0
+
+-- another length: the record of the file, and, where it is shorter, the extents behind its end are dropped, and the one
+-- at its end is set anew
+abbrev pub length_needs : Typed → ℕ → ℕ → ℕ → Needs
+length_needs t file old len = record {
+  draws = false;
+  grows = 0;
+  records = 38 + cond (nat_lt len old) (31 + set_at_end t file len) 0;
+  clusters = 0;
+}

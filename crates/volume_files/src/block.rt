@@ -1,0 +1,241 @@
+//! A block of a file is made anew and set.
+
+ghost use Rattle.std.specs.Prelude.{◌≡◌, ◌⊎◌, ◌↔◌, ◌≤◌, ◌<◌, ◌+◌, ◌-◌, ◌*◌, ◌^◌, ℕ, length, slice_index, ◌++◌, true};
+ghost use Rattle.std.specs.Prelude.{false, min, take, drop, IfOk, IfSome, OnOk, OnErr, IsErrOf, IsTrue, Some};
+ghost use Rattle.std.specs.FinMap.{find};
+ghost use Rattle.vdisk.specs.Causes.{Rose};
+ghost use Rattle.cluster_space.specs.States.{IsIn, free_in};
+ghost use Rattle.cluster_space.specs.declared.state.State.TheVariants.{Deferred};
+ghost use Rattle.table_records.specs.Keys.{pair_cmp};
+ghost use Rattle.table_records.specs.declared.records.Extent.{Extent};
+ghost use Rattle.volume_inside.specs.Changes.{with_block, with_extent, with_file};
+ghost use Rattle.volume_inside.specs.Inside.{block_of, inside_at};
+ghost use Rattle.volume_inside.specs.Layout.{half_bytes};
+ghost use Rattle.volume_inside.specs.Rules.{RulesHold};
+ghost use Rattle.volume_inside.specs.Typed.{Typed};
+ghost use Rattle.volume_tables.specs.Clusters.{HasState};
+ghost use Rattle.volume_tables.specs.Frames.{NamesNoFree};
+ghost use Rattle.volume_tables.specs.Tables.{tables_now, inside_now, states_of, staged_of, checkpoint_of, disk_of};
+ghost use Rattle.volume_tables.specs.Tables.{clusters_in, stopped, new_bytes, IsTables, Leaves};
+ghost use Rattle.volume_files.specs.Writing.{laid, named_bytes, IsReadable, IsNoFreer, LosesNone};
+
+use plain_volume::Fault;
+use vdisk::Disk;
+use volume_tables::{Extent, FileRecord, Tables};
+
+/// How many bytes a block has.
+pub(crate) const BLOCK: u64 = 4096;
+
+/// Puts bytes in the place of others.
+fn put_part(block: &mut [u8], from: usize, part: &[u8])
+    requires { from + length part.now ≤ length block.old }
+    ensures { block.new ≡ take from block.old ++ part.now ++ drop (from + length part.now) block.old }
+{
+    block[from..from + part.len()].copy_from_slice(part);
+}
+
+/// Lays bytes that belong at the place `at` of a file over its block that begins at `start`. Some of them lie in it.
+fn lay_over(block: &mut [u8; 4096], start: u64, at: u64, bytes: &[u8])
+    requires short { length bytes.now ≤ 1048576 }
+    requires low { at ≤ 1073741824 }
+    requires block_low { start ≤ 1073741824 }
+    requires before { at < start + 4096 }
+    requires behind { start < at + length bytes.now }
+    ensures { (o : ℕ) → o < 4096 → slice_index block.new o ≡
+        laid at bytes.now (start + o) (slice_index block.old o) }
+{
+    let from = at.saturating_sub(start) as usize;
+    let skipped = start.saturating_sub(at) as usize;
+    let count = (bytes.len() - skipped).min(4096 - from);
+    put_part(block, from, &bytes[skipped..skipped + count]);
+}
+
+/// Reads the bytes that an extent names into the front of a block.
+fn read_front<D: Disk>(
+    tables: &mut Tables<D>,
+    extent: Extent,
+    block: &mut [u8],
+) -> Result<(), Fault>
+    requires readable { IsReadable tables.old.clusters extent }
+    requires whole { length block.old ≡ 4096 }
+    ensures bytes { (stored : Typed) → IsTables tables.old stored → OnOk result (block.new ≡
+        block_of extent (disk_of tables.old).image ++ drop extent.valid block.old) }
+    ensures now { tables_now tables.new ≡ tables_now tables.old }
+    ensures states { states_of tables.new ≡ states_of tables.old }
+    ensures image { (disk_of tables.new).image ≡ (disk_of tables.old).image }
+    ensures leaves { Leaves tables.old tables.new }
+    ensures staged { staged_of tables.new ≡ staged_of tables.old }
+    ensures checkpoint { checkpoint_of tables.new ≡ checkpoint_of tables.old }
+    ensures running { stopped tables.new ≡ stopped tables.old }
+    ensures failed { OnErr result (IsErrOf result Fault.Failed ×
+        Rose (disk_of tables.old).faults (disk_of tables.new).faults) }
+{
+    tables.read_range(extent.cluster, 0, &mut block[..extent.valid as usize])
+}
+
+/// Reads the bytes that an extent names, if there is one, into a block of zeros.
+fn read_block<D: Disk>(
+    tables: &mut Tables<D>,
+    was: Option<Extent>,
+    block: &mut [u8; 4096],
+) -> Result<(), Fault>
+    requires readable { IfSome was (IsReadable tables.old.clusters) }
+    requires zeros { (o : ℕ) → slice_index block.old o ≡ 0 }
+    ensures bytes { (stored : Typed) → IsTables tables.old stored → OnOk result ((o : ℕ) → o < 4096 →
+        slice_index block.new o ≡ slice_index (named_bytes was (disk_of tables.old).image) o) }
+    ensures now { tables_now tables.new ≡ tables_now tables.old }
+    ensures states { states_of tables.new ≡ states_of tables.old }
+    ensures image { (disk_of tables.new).image ≡ (disk_of tables.old).image }
+    ensures leaves { Leaves tables.old tables.new }
+    ensures staged { staged_of tables.new ≡ staged_of tables.old }
+    ensures checkpoint { checkpoint_of tables.new ≡ checkpoint_of tables.old }
+    ensures running { stopped tables.new ≡ stopped tables.old }
+    ensures failed { OnErr result (IsErrOf result Fault.Failed ×
+        Rose (disk_of tables.old).faults (disk_of tables.new).faults) }
+{
+    match was {
+        None => Ok(()),
+        Some(extent) => read_front(tables, extent, block),
+    }
+}
+
+/// Whether so many bytes that belong at the place `at` of a file fill its block that begins at `start`.
+fn fills(start: u64, at: u64, count: usize) -> bool
+    requires low { at ≤ 1073741824 }
+    requires block_low { start ≤ 1073741824 }
+    requires short { count ≤ 1048576 }
+    ensures { IsTrue result ↔ (at ≤ start) × (start + 4096 ≤ at + count) }
+{
+    at <= start && start + BLOCK <= at + count as u64
+}
+
+/// The block of a file that begins at `start`, once bytes were written at the place `at` of the file. Some of them lie
+/// in the block, and its extent was `was`. A block that they fill is not read.
+fn block_with<D: Disk>(
+    tables: &mut Tables<D>,
+    was: Option<Extent>,
+    start: u64,
+    at: u64,
+    bytes: &[u8],
+) -> Result<[u8; 4096], Fault>
+    requires readable { IfSome was (IsReadable tables.old.clusters) }
+    requires short { length bytes.now ≤ 1048576 }
+    requires low { at ≤ 1073741824 }
+    requires block_low { start ≤ 1073741824 }
+    requires before { at < start + 4096 }
+    requires behind { start < at + length bytes.now }
+    ensures bytes { (stored : Typed) → IsTables tables.old stored → IfOk result (λ block. (o : ℕ) → o < 4096 →
+        slice_index block o ≡
+        laid at bytes.now (start + o) (slice_index (named_bytes was (disk_of tables.old).image) o)) }
+    ensures now { tables_now tables.new ≡ tables_now tables.old }
+    ensures states { states_of tables.new ≡ states_of tables.old }
+    ensures image { (disk_of tables.new).image ≡ (disk_of tables.old).image }
+    ensures leaves { Leaves tables.old tables.new }
+    ensures staged { staged_of tables.new ≡ staged_of tables.old }
+    ensures checkpoint { checkpoint_of tables.new ≡ checkpoint_of tables.old }
+    ensures running { stopped tables.new ≡ stopped tables.old }
+    ensures failed { OnErr result (IsErrOf result Fault.Failed ×
+        Rose (disk_of tables.old).faults (disk_of tables.new).faults) }
+{
+    let beside = if fills(start, at, bytes.len()) {
+        None
+    } else {
+        was
+    };
+    let mut block = [0; 4096];
+    read_block(tables, beside, &mut block)?;
+    lay_over(&mut block, start, at, bytes);
+    Ok(block)
+}
+
+/// Writes a block into a free cluster and names that as the block of a key, of which `valid` bytes are the file's.
+/// Answers the new extent.
+fn set_block<D: Disk>(
+    tables: &mut Tables<D>,
+    key: (u64, u32),
+    block: &[u8; 4096],
+    valid: u16,
+) -> Result<Extent, Fault>
+    requires running { stopped tables.old ≡ false }
+    requires some { 0 < free_in (states_of tables.old) }
+    requires room { staged_of tables.old + 24 ≤ 65472 }
+    requires fits { checkpoint_of tables.old + new_bytes (find pair_cmp key (tables_now tables.old).extents) 24
+        ≤ half_bytes tables.old.clusters }
+    ensures ok { IfOk result (λ e. tables_now tables.new ≡ with_extent key e (tables_now tables.old)) }
+    ensures err { OnErr result (tables_now tables.new ≡ tables_now tables.old) }
+    ensures valid { IfOk result (λ e. e.valid ≡ valid) }
+    ensures written { (stored : Typed) → IsTables tables.old stored →
+        IfOk result (λ e. block_of e (disk_of tables.new).image ≡ take valid block.now) }
+    ensures frame { (t : Typed) → NamesNoFree tables.old.clusters (states_of tables.old) t →
+        inside_at t (disk_of tables.new).image ≡ inside_at t (disk_of tables.old).image }
+    ensures leaves { Leaves tables.old tables.new }
+    ensures replaced { IfOk result (λ e. (o : Extent) →
+        find pair_cmp key (tables_now tables.old).extents ≡ Some o →
+        HasState tables.new.clusters (states_of tables.new) Deferred o.cluster) }
+    ensures fewer { IsNoFreer (states_of tables.old) (states_of tables.new) }
+    ensures free { OnOk result (free_in (states_of tables.new) + 1 ≡ free_in (states_of tables.old)) }
+    ensures loses_none { LosesNone tables.old tables.new }
+    ensures staged { staged_of tables.new ≤ staged_of tables.old + 24 }
+    ensures checkpoint { OnOk result (checkpoint_of tables.new ≡
+        checkpoint_of tables.old + new_bytes (find pair_cmp key (tables_now tables.old).extents) 24) }
+    ensures runs { OnOk result (stopped tables.new ≡ false) }
+    ensures stops { stopped tables.new ≡ true → IsErrOf result Fault.Failed }
+    ensures refused { OnErr result (IsErrOf result Fault.Failed ⊎ IsErrOf result Fault.Memory) }
+    ensures failed { IsErrOf result Fault.Failed → Rose (disk_of tables.old).faults (disk_of tables.new).faults }
+{
+    let cluster = tables.write_cluster(block)?;
+    let extent = Extent { cluster, valid };
+    tables.set_extent(key, extent)?;
+    Ok(extent)
+}
+
+/// Writes the part of bytes that belong at the place `at` of a file which lies in one of its blocks: `key` is the
+/// file's id and the block's number, `was` the block's extent. The file is as long as its record `grown` says. Answers
+/// the new extent.
+pub(crate) fn write_block<D: Disk>(
+    tables: &mut Tables<D>,
+    key: (u64, u32),
+    was: Option<Extent>,
+    grown: FileRecord,
+    at: u64,
+    bytes: &[u8],
+) -> Result<Extent, Fault>
+    requires running { stopped tables.old ≡ false }
+    requires is { was ≡ find pair_cmp key (tables_now tables.old).extents }
+    requires rules { RulesHold tables.old.clusters (with_file key.0 grown (tables_now tables.old)) }
+    requires short { length bytes.now ≤ 1048576 }
+    requires reach { at + length bytes.now ≤ grown.length }
+    requires before { at < 4096 * key.1 + 4096 }
+    requires behind { 4096 * key.1 < at + length bytes.now }
+    requires most { grown.length ≤ 1073741824 }
+    requires some { 0 < free_in (states_of tables.old) }
+    requires room { staged_of tables.old + 24 ≤ 65472 }
+    requires fits { checkpoint_of tables.old + new_bytes was 24 ≤ half_bytes tables.old.clusters }
+    ensures ok { IfOk result (λ e. tables_now tables.new ≡ with_extent key e (tables_now tables.old)) }
+    ensures err { OnErr result (tables_now tables.new ≡ tables_now tables.old) }
+    ensures rules { RulesHold tables.new.clusters (with_file key.0 grown (tables_now tables.new)) }
+    ensures inside { IfOk result (λ e. inside_now tables.new ≡
+        with_block key (block_of e (disk_of tables.new).image) (inside_now tables.old)) }
+    ensures written { (stored : Typed) → IsTables tables.old stored → IfOk result (λ e. (o : ℕ) → o < 4096 →
+        4096 * key.1 + o < grown.length → slice_index (block_of e (disk_of tables.new).image) o ≡
+        laid at bytes.now (4096 * key.1 + o) (slice_index (named_bytes was (disk_of tables.old).image) o)) }
+    ensures frame { (t : Typed) → NamesNoFree tables.old.clusters (states_of tables.old) t →
+        inside_at t (disk_of tables.new).image ≡ inside_at t (disk_of tables.old).image }
+    ensures leaves { Leaves tables.old tables.new }
+    ensures replaced { IfOk result (λ e. (o : Extent) → was ≡ Some o →
+        HasState tables.new.clusters (states_of tables.new) Deferred o.cluster) }
+    ensures fewer { IsNoFreer (states_of tables.old) (states_of tables.new) }
+    ensures free { OnOk result (free_in (states_of tables.new) + 1 ≡ free_in (states_of tables.old)) }
+    ensures loses_none { LosesNone tables.old tables.new }
+    ensures staged { staged_of tables.new ≤ staged_of tables.old + 24 }
+    ensures checkpoint { OnOk result (checkpoint_of tables.new ≡ checkpoint_of tables.old + new_bytes was 24) }
+    ensures runs { OnOk result (stopped tables.new ≡ false) }
+    ensures stops { stopped tables.new ≡ true → IsErrOf result Fault.Failed }
+    ensures refused { OnErr result (IsErrOf result Fault.Failed ⊎ IsErrOf result Fault.Memory) }
+    ensures failed { IsErrOf result Fault.Failed → Rose (disk_of tables.old).faults (disk_of tables.new).faults }
+{
+    let start = BLOCK * key.1 as u64;
+    let block = block_with(tables, was, start, at, bytes)?;
+    let valid = BLOCK.min(grown.length - start) as u16;
+    set_block(tables, key, &block, valid)
+}

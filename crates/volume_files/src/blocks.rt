@@ -1,0 +1,109 @@
+//! The blocks of a file that bytes touch are made anew, all of them or none.
+
+ghost use Rattle.std.specs.Prelude.{◌≡◌, ◌⊎◌, ◌≤◌, ◌<◌, ◌+◌, ◌*◌, ℕ, T, length, true, false, IsSome, OnOk, OnErr};
+ghost use Rattle.std.specs.Prelude.{IsErrOf, Some};
+ghost use Rattle.std.specs.FinMap.{find, is_sorted};
+ghost use Rattle.vdisk.specs.Causes.{Rose};
+ghost use Rattle.cluster_space.specs.States.{IsIn, free_in};
+ghost use Rattle.cluster_space.specs.declared.state.State.TheVariants.{Deferred};
+ghost use Rattle.table_records.specs.Keys.{pair_cmp};
+ghost use Rattle.table_records.specs.declared.records.Extent.{Extent};
+ghost use Rattle.table_records.specs.declared.records.FileRecord.{FileRecord};
+ghost use Rattle.volume_inside.specs.Changes.{with_extent, with_file};
+ghost use Rattle.volume_inside.specs.Inside.{inside_at};
+ghost use Rattle.volume_inside.specs.Layout.{half_bytes, first_data_cluster};
+ghost use Rattle.volume_inside.specs.Rules.{RulesHold};
+ghost use Rattle.volume_inside.specs.Typed.{Typed};
+ghost use Rattle.volume_inside.specs.View.{cell};
+ghost use Rattle.volume_tables.specs.Clusters.{HasState};
+ghost use Rattle.volume_tables.specs.Frames.{NamesNoFree};
+ghost use Rattle.volume_tables.specs.Tables.{tables_now, inside_now, states_of, staged_of, checkpoint_of, disk_of};
+ghost use Rattle.volume_tables.specs.Tables.{stopped, IsTables, Leaves};
+ghost use Rattle.volume_files.specs.Needs.{missing};
+ghost use Rattle.volume_files.specs.Writing.{blocks_up_to, laid_from, AreExtentsSet, LosesNone};
+
+use crate::block::{BLOCK, write_block};
+use plain_volume::Fault;
+use vdisk::Disk;
+use volume_tables::{Extent, FileRecord, Tables};
+
+/// Gives a key, which has an extent, the one that it had before, or none. The cluster of the one before is deferred.
+fn take_back<D: Disk>(tables: &mut Tables<D>, key: (u64, u32), was: Option<Extent>)
+    requires room { staged_of tables.old + 31 ≤ 65472 }
+    requires low { key.1 < 1048576 }
+    requires there { IsSome (find pair_cmp key (tables_now tables.old).extents) }
+    requires deferred { (o : Extent) → was ≡ Some o →
+        HasState tables.old.clusters (states_of tables.old) Deferred o.cluster }
+    ensures tables { (t : Typed) (e : Extent) → T (is_sorted pair_cmp t.extents) → find pair_cmp key t.extents ≡ was →
+        tables_now tables.old ≡ with_extent key e t → tables_now tables.new ≡ t }
+    ensures leaves { Leaves tables.old tables.new }
+    ensures deferred { (k : ℕ) → IsIn (states_of tables.old) k Deferred →
+        ((o : Extent) → was ≡ Some o → o.cluster ≡ first_data_cluster tables.old.clusters + k → ⊥) →
+        IsIn (states_of tables.new) k Deferred }
+    ensures loses_none { LosesNone tables.old tables.new }
+    ensures staged { staged_of tables.new ≤ staged_of tables.old + 31 }
+    ensures image { (disk_of tables.new).image ≡ (disk_of tables.old).image }
+    ensures running { stopped tables.new ≡ stopped tables.old }
+{
+    match was {
+        None => tables.drop_extent(key, Some((key.0, key.1 + 1))),
+        Some(extent) => tables.set_extent(key, extent).unwrap(),
+    }
+}
+
+/// Writes the part of bytes that belong at the place `at` of a file which lies in its blocks from `index` on. The file
+/// is as long as its record `grown` says. A refusal leaves the tables as they are.
+pub(crate) fn write_blocks<D: Disk>(
+    tables: &mut Tables<D>,
+    file: u64,
+    grown: FileRecord,
+    at: u64,
+    bytes: &[u8],
+    index: u32,
+) -> Result<(), Fault>
+    requires running { stopped tables.old ≡ false }
+    requires rules { RulesHold tables.old.clusters (with_file file grown (tables_now tables.old)) }
+    requires short { length bytes.now ≤ 1048576 }
+    requires reach { at + length bytes.now ≤ grown.length }
+    requires most { grown.length ≤ 1073741824 }
+    requires from_first { at < 4096 * index + 4096 }
+    requires clusters { blocks_up_to (at + length bytes.now) index ≤ free_in (states_of tables.old) }
+    requires room { staged_of tables.old + 55 * blocks_up_to (at + length bytes.now) index ≤ 65472 }
+    requires fits { checkpoint_of tables.old +
+        24 * missing (tables_now tables.old) file index (blocks_up_to (at + length bytes.now) index)
+        ≤ half_bytes tables.old.clusters }
+    ensures ok { OnOk result (AreExtentsSet file (4096 * index) (at + length bytes.now)
+        (tables_now tables.old) (tables_now tables.new)) }
+    ensures err { OnErr result (tables_now tables.new ≡ tables_now tables.old) }
+    ensures rules { OnOk result (RulesHold tables.new.clusters (with_file file grown (tables_now tables.new))) }
+    ensures others { OnOk result ((other p : ℕ) (record_of : FileRecord) → (other ≡ file → ⊥) →
+        cell (inside_now tables.new) other record_of p ≡ cell (inside_now tables.old) other record_of p) }
+    ensures cells { (stored : Typed) → IsTables tables.old stored → OnOk result ((p : ℕ) → p < grown.length →
+        cell (inside_now tables.new) file grown p ≡
+        laid_from (4096 * index) at bytes.now p (cell (inside_now tables.old) file grown p)) }
+    ensures frame { (t : Typed) → NamesNoFree tables.old.clusters (states_of tables.old) t →
+        inside_at t (disk_of tables.new).image ≡ inside_at t (disk_of tables.old).image }
+    ensures leaves { Leaves tables.old tables.new }
+    ensures deferred { (k : ℕ) → IsIn (states_of tables.old) k Deferred → IsIn (states_of tables.new) k Deferred }
+    ensures loses_none { LosesNone tables.old tables.new }
+    ensures staged { staged_of tables.new ≤
+        staged_of tables.old + 55 * blocks_up_to (at + length bytes.now) index }
+    ensures runs { OnOk result (stopped tables.new ≡ false) }
+    ensures stops { stopped tables.new ≡ true → IsErrOf result Fault.Failed }
+    ensures refused { OnErr result (IsErrOf result Fault.Failed ⊎ IsErrOf result Fault.Memory) }
+    ensures failed { IsErrOf result Fault.Failed → Rose (disk_of tables.old).faults (disk_of tables.new).faults }
+{
+    if BLOCK * index as u64 >= at + bytes.len() as u64 {
+        return Ok(());
+    }
+    let key = (file, index);
+    let was = tables.get_extent(key);
+    write_block(tables, key, was, grown, at, bytes)?;
+    match write_blocks(tables, file, grown, at, bytes, index + 1) {
+        Ok(()) => Ok(()),
+        Err(fault) => {
+            take_back(tables, key, was);
+            Err(fault)
+        }
+    }
+}

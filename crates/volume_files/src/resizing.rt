@@ -1,0 +1,125 @@
+// Files get another length.
+ghost use Rattle.std.specs.Prelude.{◌≡◌, ◌≤◌, ◌<◌, ◌+◌, ◌^◌, ◌/◌, ◌%◌, ℕ, Some, OnOk, OnErr, IsErrOf, false, true};
+ghost use Rattle.std.specs.Ordering.{nat_cmp};
+ghost use Rattle.std.specs.FinMap.{find};
+ghost use Rattle.table_records.specs.Keys.{pair_cmp};
+ghost use Rattle.plain_volume.specs.Replies.{done_reply};
+ghost use Rattle.plain_volume.specs.Step.{plain, after};
+ghost use Rattle.plain_volume.specs.declared.call.Call.TheVariants.{SetLength};
+ghost use Rattle.table_records.specs.declared.records.FileRecord.{FileRecord};
+ghost use Rattle.volume_tables.specs.Tables.{tables_now, view_now, disk_of, staged_of, stopped};
+ghost use Rattle.volume_files.specs.Found.{IsFileOf};
+ghost use Rattle.volume_files.specs.Needs.{length_needs, set_at_end};
+ghost use Rattle.volume_files.specs.Lengths.{cut_extent, end_cut, cut_at, resized_in, length_wants};
+ghost use Rattle.volume_files.specs.Sound.{IsSound, Endures};
+ghost use Rattle.volume_files.specs.Stages.{Stages};
+ghost use Rattle.volume_files.specs.Wants.{IsReplied};
+
+use crate::lookup::find_file;
+use crate::reading::BLOCK;
+use crate::room::make_room;
+use plain_volume::Fault;
+use plain_volume::limits::MOST_BYTES_OF_A_FILE;
+use vdisk::Disk;
+use volume_tables::{Extent, FileRecord, Tables};
+
+/// The extent of the block in which a file of this length ends, cut to the file's end, if it has more bytes.
+fn cut_end_extent<D: Disk>(tables: &Tables<D>, id: u64, length: u64) -> Option<Extent>
+    requires { length ≤ 1073741824 }
+    ensures { result ≡ cut_extent (length % 4096) (find pair_cmp (id, length / 4096) (tables_now tables.now).extents) }
+{
+    let extent = tables.get_extent((id, (length / BLOCK) as u32))?;
+    let rest = (length % BLOCK) as u16;
+    if 0 < rest && rest < extent.valid {
+        Some(Extent {
+            cluster: extent.cluster,
+            valid: rest,
+        })
+    } else {
+        None
+    }
+}
+
+/// The most bytes of records that another length of a file stages.
+fn records_of_length<D: Disk>(tables: &Tables<D>, id: u64, old: u64, length: u64) -> usize
+    requires { length ≤ 1073741824 }
+    ensures { result ≡ (length_needs (tables_now tables.now) id old length).records }
+{
+    if old <= length {
+        return 38;
+    }
+    match cut_end_extent(tables, id, length) {
+        None => 69,
+        Some(_) => 93,
+    }
+}
+
+/// Cuts the block in which a file of this length ends.
+fn cut_end<D: Disk>(tables: &mut Tables<D>, id: u64, length: u64)
+    requires short { length ≤ 1073741824 }
+    requires room { staged_of tables.old + set_at_end (tables_now tables.old) id length ≤ 65472 }
+    ensures tables { tables_now tables.new ≡ end_cut id length (tables_now tables.old) }
+    ensures stages { Stages (set_at_end (tables_now tables.old) id length) tables.old tables.new }
+{
+    if let Some(extent) = cut_end_extent(tables, id, length) {
+        let key = (id, (length / BLOCK) as u32);
+        tables.set_extent(key, extent).unwrap();
+    }
+}
+
+/// Cuts the blocks of a file to its end, where it has this length.
+fn cut<D: Disk>(tables: &mut Tables<D>, id: u64, length: u64)
+    requires id { id < 2 ^ 48 }
+    requires short { length ≤ 1073741824 }
+    requires room { staged_of tables.old + (31 + set_at_end (tables_now tables.old) id length) ≤ 65472 }
+    ensures tables { tables_now tables.new ≡ cut_at id length (tables_now tables.old) }
+    ensures stages { Stages (31 + set_at_end (tables_now tables.old) id length) tables.old tables.new }
+{
+    cut_end(tables, id, length);
+    let behind = ((length + (BLOCK - 1)) / BLOCK) as u32;
+    tables.drop_extent((id, behind), Some((id + 1, 0)));
+}
+
+/// Gives a file that is there another length.
+fn resize<D: Disk>(tables: &mut Tables<D>, id: u64, file: FileRecord, length: u64)
+    requires id { id < 2 ^ 48 }
+    requires short { length ≤ 1073741824 }
+    requires there { find nat_cmp id (tables_now tables.old).files ≡ Some file }
+    requires room { staged_of tables.old +
+        (length_needs (tables_now tables.old) id file.length length).records ≤ 65472 }
+    ensures tables { tables_now tables.new ≡ resized_in id file length (tables_now tables.old) }
+    ensures stages { Stages (length_needs (tables_now tables.old) id file.length length).records tables.old tables.new }
+{
+    if length < file.length {
+        cut(tables, id, length);
+    }
+    tables.set_file(id, FileRecord { length, ..file }).unwrap();
+}
+
+/// Cuts the file of a name to a length, or extends it by zeros. It takes no memory.
+///
+/// The bytes that are cut off do not come back when the file grows again. The record of the file is set also where the
+/// length is the same.
+pub fn set_length<D: Disk>(tables: &mut Tables<D>, name: &[u8], length: u64) -> Result<(), Fault>
+    requires running { stopped tables.old ≡ false }
+    requires sound { IsSound tables.old }
+    ensures reply { IsReplied (plain (view_now tables.old) (SetLength name.now length))
+        (length_wants tables.old name.now length) (disk_of tables.old).faults (disk_of tables.new).faults
+        (done_reply result) }
+    ensures left { view_now tables.new ≡ after (view_now tables.old) (SetLength name.now length) (done_reply result) }
+    ensures sound { IsSound tables.new }
+    ensures endures { Endures tables.old tables.new }
+    ensures stops { stopped tables.new ≡ true → IsErrOf result Fault.Failed }
+    ensures same { OnErr result (tables_now tables.new ≡ tables_now tables.old) }
+    ensures resized { (id : ℕ) (file : FileRecord) → IsFileOf tables.old name.now id file →
+        OnOk result (tables_now tables.new ≡ resized_in id file length (tables_now tables.old)) }
+{
+    let (id, file) = find_file(tables, name)?;
+    if length > MOST_BYTES_OF_A_FILE {
+        return Err(Fault::TooLarge(MOST_BYTES_OF_A_FILE));
+    }
+    let records = records_of_length(tables, id, file.length, length);
+    make_room(tables, false, 0, records, 0)?;
+    resize(tables, id, file, length);
+    Ok(())
+}

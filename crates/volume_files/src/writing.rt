@@ -1,0 +1,159 @@
+//! Bytes are written into a file over the tables.
+
+ghost use Rattle.std.specs.Prelude.{◌≡◌, ◌⊎◌, ◌≤◌, ◌<◌, ◌+◌, ◌-◌, ◌*◌, ◌/◌, ℕ, List, length, true, false, max, IsSome};
+ghost use Rattle.std.specs.Prelude.{IsTrue, None, Some, IfErr, OnOk, OnErr, IsErrOf};
+ghost use Rattle.std.specs.Ordering.{nat_cmp};
+ghost use Rattle.std.specs.FinMap.{find, put};
+ghost use Rattle.vdisk.specs.Causes.{Rose};
+ghost use Rattle.cluster_space.specs.States.{free_in};
+ghost use Rattle.plain_volume.specs.Volume.{Volume, overwritten};
+ghost use Rattle.plain_volume.specs.Step.{write};
+ghost use Rattle.plain_volume.specs.Replies.{done_reply};
+ghost use Rattle.table_records.specs.declared.records.FileRecord.{FileRecord};
+ghost use Rattle.volume_inside.specs.Layout.{half_bytes};
+ghost use Rattle.volume_inside.specs.Typed.{Typed};
+ghost use Rattle.volume_inside.specs.View.{file_cells};
+ghost use Rattle.volume_tables.specs.Tables.{tables_now, inside_now, states_of, staged_of, checkpoint_of, disk_of};
+ghost use Rattle.volume_tables.specs.Tables.{clusters_in, stopped, IsTables, IsRoomFor, Leaves};
+ghost use Rattle.volume_files.specs.Needs.{missing, first_touched, touched, write_needs};
+ghost use Rattle.volume_files.specs.Sound.{IsSound, IsKept, Endures};
+ghost use Rattle.volume_files.specs.Wants.{wanting, IsWanting, IsRepliedOrMemory};
+ghost use Rattle.volume_files.specs.Writing.{AreWritten, IsWritten, write_wants};
+
+use crate::block::BLOCK;
+use crate::blocks::write_blocks;
+use crate::room::make_room;
+use plain_volume::Fault;
+use plain_volume::limits::{MOST_BYTES_OF_A_CALL, MOST_BYTES_OF_A_FILE};
+use vdisk::Disk;
+use volume_tables::{FileRecord, Tables};
+
+/// How many of so many blocks of a file from one on have no extent.
+fn count_missing<D: Disk>(tables: &Tables<D>, file: u64, first: u32, count: u32) -> u32
+    requires low { first + count ≤ 1048576 }
+    ensures is { result ≡ missing (tables_now tables.now) file first count }
+    ensures most { result ≤ count }
+{
+    if count == 0 {
+        return 0;
+    }
+    let rest = count_missing(tables, file, first + 1, count - 1);
+    match tables.get_extent((file, first)) {
+        None => 1 + rest,
+        Some(_) => rest,
+    }
+}
+
+/// Makes room for a write of some bytes into a file that stays within the limits.
+fn make_room_for_write<D: Disk>(
+    tables: &mut Tables<D>,
+    file: u64,
+    at: u64,
+    count: usize,
+) -> Result<(), Fault>
+    requires running { stopped tables.old ≡ false }
+    requires sound { IsSound tables.old }
+    requires some { 0 < count }
+    requires short { count ≤ 1048576 }
+    requires within { at + count ≤ 1073741824 }
+    ensures refused { IfErr result (IsWanting tables.old tables.new
+        (write_needs (tables_now tables.old) file at count)) }
+    ensures none { OnOk result (wanting tables.old (write_needs (tables_now tables.old) file at count) ≡ None) }
+    ensures room { OnOk result (IsRoomFor tables.new (38 + 55 * touched at count) (touched at count)) }
+    ensures fits { OnOk result (checkpoint_of tables.new +
+        24 * missing (tables_now tables.new) file (first_touched at) (touched at count)
+        ≤ half_bytes (clusters_in tables.new)) }
+    ensures now { tables_now tables.new ≡ tables_now tables.old }
+    ensures inside { inside_now tables.new ≡ inside_now tables.old }
+    ensures sound { IsSound tables.new }
+    ensures endures { Endures tables.old tables.new }
+    ensures runs { OnOk result (stopped tables.new ≡ false) }
+    ensures stops { stopped tables.new ≡ true → IsErrOf result Fault.Failed }
+{
+    let first = (at / BLOCK) as u32;
+    let touches = ((at + count as u64 - 1) / BLOCK) as u32 + 1 - first;
+    let grows = 24 * count_missing(tables, file, first, touches) as u64;
+    make_room(tables, false, grows, 38 + 55 * touches as usize, touches)
+}
+
+/// Writes some bytes at a place of a file for which there is room. A refusal leaves the tables as they are.
+fn write_with_room<D: Disk>(
+    tables: &mut Tables<D>,
+    file: u64,
+    at: u64,
+    bytes: &[u8],
+) -> Result<(), Fault>
+    requires running { stopped tables.old ≡ false }
+    requires sound { IsSound tables.old }
+    requires there { IsSome (find nat_cmp file (tables_now tables.old).files) }
+    requires some { 0 < length bytes.now }
+    requires short { length bytes.now ≤ 1048576 }
+    requires within { at + length bytes.now ≤ 1073741824 }
+    requires room { IsRoomFor tables.old (38 + 55 * touched at (length bytes.now)) (touched at (length bytes.now)) }
+    requires fits { checkpoint_of tables.old +
+        24 * missing (tables_now tables.old) file (first_touched at) (touched at (length bytes.now))
+        ≤ half_bytes (clusters_in tables.old) }
+    ensures written { OnOk result (IsWritten file at (at + length bytes.now)
+        (tables_now tables.old) (tables_now tables.new)) }
+    ensures err { OnErr result (tables_now tables.new ≡ tables_now tables.old) }
+    ensures err_inside { OnErr result (inside_now tables.new ≡ inside_now tables.old) }
+    ensures cells { (stored : Typed) → IsTables tables.old stored → OnOk result
+        (file_cells (inside_now tables.new) file ≡
+        overwritten at bytes.now (file_cells (inside_now tables.old) file)) }
+    ensures others { OnOk result ((other : ℕ) → (other ≡ file → ⊥) →
+        file_cells (inside_now tables.new) other ≡ file_cells (inside_now tables.old) other) }
+    ensures sound { IsSound tables.new }
+    ensures leaves { Leaves tables.old tables.new }
+    ensures stops { stopped tables.new ≡ true → IsErrOf result Fault.Failed }
+    ensures refused { OnErr result (IsErrOf result Fault.Failed ⊎ IsErrOf result Fault.Memory) }
+    ensures failed { IsErrOf result Fault.Failed → Rose (disk_of tables.old).faults (disk_of tables.new).faults }
+{
+    let mut grown = tables.get_file(file).unwrap();
+    grown.length = grown.length.max(at + bytes.len() as u64);
+    write_blocks(tables, file, grown, at, bytes, (at / BLOCK) as u32)?;
+    tables.set_file(file, grown).unwrap();
+    Ok(())
+}
+
+/// Puts bytes at a place of a file that is there, with zeros up to it where the file is shorter; no bytes change
+/// nothing, and want nothing. Each block that is touched gets a new cluster: named bytes are never overwritten. After a
+/// refusal the tables are what they were. In the clauses `v` is a volume and `name` a name in it whose file has these
+/// cells.
+pub fn write_plain<D: Disk>(
+    tables: &mut Tables<D>,
+    file: u64,
+    at: u64,
+    bytes: &[u8],
+) -> Result<(), Fault>
+    requires running { stopped tables.old ≡ false }
+    requires sound { IsSound tables.old }
+    requires there { IsSome (find nat_cmp file (tables_now tables.old).files) }
+    ensures reply { (name : List ℕ) (v : Volume) → IsRepliedOrMemory
+        (write name at bytes.now v (file_cells (inside_now tables.old) file))
+        (write_wants tables.old file at bytes.now) (disk_of tables.old).faults (disk_of tables.new).faults
+        (done_reply result) }
+    ensures cells { (w : Volume) → IsKept tables.old w → OnOk result
+        (file_cells (inside_now tables.new) file ≡
+        overwritten at bytes.now (file_cells (inside_now tables.old) file)) }
+    ensures others { OnOk result ((other : ℕ) → (other ≡ file → ⊥) →
+        file_cells (inside_now tables.new) other ≡ file_cells (inside_now tables.old) other) }
+    ensures written { OnOk result (AreWritten file at bytes.now (tables_now tables.old) (tables_now tables.new)) }
+    ensures err { OnErr result (tables_now tables.new ≡ tables_now tables.old) }
+    ensures err_inside { OnErr result (inside_now tables.new ≡ inside_now tables.old) }
+    ensures sound { IsSound tables.new }
+    ensures endures { Endures tables.old tables.new }
+    ensures stops { stopped tables.new ≡ true → IsErrOf result Fault.Failed }
+    ensures failed { IsErrOf result Fault.Failed → Rose (disk_of tables.old).faults (disk_of tables.new).faults }
+{
+    if bytes.len() as u64 > MOST_BYTES_OF_A_CALL {
+        return Err(Fault::TooLarge(MOST_BYTES_OF_A_CALL));
+    }
+    if at > MOST_BYTES_OF_A_FILE || at + bytes.len() as u64 > MOST_BYTES_OF_A_FILE {
+        return Err(Fault::TooLarge(MOST_BYTES_OF_A_FILE));
+    }
+    if bytes.is_empty() {
+        return Ok(());
+    }
+    make_room_for_write(tables, file, at, bytes.len())?;
+    write_with_room(tables, file, at, bytes)
+}
