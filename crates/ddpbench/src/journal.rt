@@ -76,7 +76,7 @@ fn disk_of(rt: &impl Files<File = File>, half: u64) -> anyhow::Result<Counted<Fi
     if disk.size() <= size {
         disk.grow(size)?;
     }
-    Ok(Counted { disk, written: 0 })
+    Ok(Counted::new(disk))
 }
 
 fn format(alloc: Global, disk: Counted<FileDisk>, half: u64) -> anyhow::Result<Log>

@@ -3,8 +3,8 @@ ghost use Rattle.std.specs.Prelude.{◌≤◌, ◌<◌, ◌*◌, ◌^◌};
 
 use crate::random::add_random;
 use crate::report::rate;
+use crate::served::served;
 use cmdlet_line::Words;
-use ddpsh::run;
 use std::alloc::{AllocError, Global};
 use std::rt::Clock as SystemTime;
 use std::time::Instant;
@@ -38,7 +38,7 @@ pub fn measure(
     let mut disk = MemoryDisk::new(alloc, 0)?;
     let mut clock = MemoryClock::new(0);
     let start = Instant::now(rt)?;
-    let outcome = run(alloc, &words, &mut source, &mut sink, &mut disk, &mut clock);
+    let outcome = served(alloc, &words, &mut source, &mut sink, &mut disk, &mut clock);
     let serving = start.elapsed(rt)?;
     let went = sink.bytes().len() as u64;
     println!(rt;

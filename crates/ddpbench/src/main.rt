@@ -10,17 +10,20 @@ mod index;
 mod journal;
 mod lines;
 mod map;
+mod memory;
 mod random;
 mod report;
+mod served;
 mod space;
+mod store;
 
 use std::env;
 use std::process::ExitCode;
 
-/// The largest size of `cut` and `lines`, in MiB: what one file of the volume holds.
+/// The largest size of `cut`, `lines` and `store`, in MiB: what one file of the volume holds.
 const MOST_MEBIBYTES: u64 = 1024;
 
-const USAGE: &str = "usage: ddpbench cut|lines MB, or ddpbench index|journal|map|space COUNT";
+const USAGE: &str = "usage: ddpbench cut|lines|store MB, or ddpbench index|journal|map|space COUNT";
 
 fn main(rt: HostRuntime) -> anyhow::Result<ExitCode> {
     let mut words = env::args(&rt)?;
@@ -37,6 +40,7 @@ fn main(rt: HostRuntime) -> anyhow::Result<ExitCode> {
     match bench.as_str() {
         "cut" if mebibytes <= MOST_MEBIBYTES => cut::measure(&rt, mebibytes)?,
         "lines" if mebibytes <= MOST_MEBIBYTES => lines::measure(&rt, mebibytes)?,
+        "store" if mebibytes <= MOST_MEBIBYTES => store::measure(&rt, mebibytes)?,
         "index" if 0 < size => index::measure(&rt, size)?,
         "journal" if 0 < size => journal::measure(&rt, size)?,
         "map" if 0 < size => map::measure(&rt, size)?,

@@ -65,3 +65,12 @@ pub fn per_second(name: &'static str, count: u32, time: Duration) -> Figure {
         unit: "records/s",
     }
 }
+
+/// A figure for each of so many MiB.
+pub fn per_mebibyte(name: &'static str, value: u64, mebibytes: u64, unit: &'static str) -> Figure {
+    Figure {
+        name,
+        value: value / mebibytes.max(1),
+        unit,
+    }
+}
