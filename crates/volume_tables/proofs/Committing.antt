@@ -51,6 +51,13 @@ now_volume n m q all spelled rules = record {
   rules = subst (λ (r : Typed). RulesHold n r) (sym all) rules;
 }
 
+-- where a commit was refused as worn, the next one is
+pub worn_wears : {D : Type 0} {d : Ghosts D} (t : Tables D d) → t.worn ≡ true → IsTrue (would_wear t)
+worn_wears t worn = ap (λ (w : Bool). w || later) worn
+  where
+    later : Bool
+    later = (nat_lt 0 (due_of t) && nat_lt t.log.half (t.log.place + (37 + due_of t))) && nat_eq t.log.epoch last_epoch
+
 -- whether it is worn
 module _ {D : Type 0} {d : Ghosts D} (t : Tables D d) (l : MetaLog D d) (quiet : IsQuiet t.log l)
     (due : log_staged l ≡ due_of t) where
@@ -86,13 +93,13 @@ worn_back (Err (Damaged h)) is = absurd (cc)
 worn_back (Err Failed) is = absurd (cc)
 worn_back (Err Memory) is = absurd (cc)
 
+pub one_or_none : (b : Bool) → (if b then 1 else 0) ≤ 1
+one_or_none true = omega arith
+one_or_none false = omega arith
+
 -- how many epochs a commit of the journal takes, unless it failed
 module _ {D : Type 0} {d : Ghosts D} (t : Tables D d) (l new : MetaLog D d) (quiet : IsQuiet t.log l)
     (r : Result (Unit {0}) MetaFault) where
-  one_or_none : (b : Bool) → (if b then 1 else 0) ≤ 1
-  one_or_none true = omega arith
-  one_or_none false = omega arith
-
   pub epoch_taken : OnErr r (IsErrOf r Worn ⊎ IsErrOf r Failed) → OnOk r (new.epoch ≡ l.epoch + epochs_taken l)
       → (IsErrOf r Worn → new ≡ l)
       → (IsErrOf r Failed → new.stopped ≡ true) → new.stopped ≡ false → new.epoch ≤ t.log.epoch + 1

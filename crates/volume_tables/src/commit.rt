@@ -40,6 +40,7 @@ impl<D: Disk> Tables<D> {
         ensures worn { IsErrOf result Fault.Worn ↔ IsTrue (would_wear self.old) }
         ensures wears { IsErrOf result Fault.Worn → self.new.worn ≡ true }
         ensures fresh { OnOk result (self.new.worn ≡ false) }
+        ensures tires { self.new.worn ≡ true → IsTrue (would_wear self.old) }
         ensures unspent { IsErrOf result Fault.Worn → self.new.log.disk ≡ self.old.log.disk }
         ensures still_stored { (stored : Typed) → IsTables self.old stored →
             IsErrOf result Fault.Worn → IsTables self.new stored }
@@ -79,8 +80,8 @@ impl<D: Disk> Tables<D> {
 
     /// Makes the tables durable, which meet the rules, with the results of jobs. A crash at any moment shows what was
     /// kept, or the tables now; after Ok the tables now are kept, and clusters that were deferred are free. After
-    /// `Worn` what is stored is as it was, the tables now are too, and each later commit is refused so; after `Failed`
-    /// the tables are stopped. Where nothing is due the disk is not called.
+    /// `Worn` what is stored is as it was, the tables now are too, and each later commit is refused so, as it is after
+    /// no other answer; after `Failed` the tables are stopped. Where nothing is due the disk is not called.
     pub fn commit(&mut self) -> Result<(), Fault>
         requires running { stopped self.old ≡ false }
         requires rules { RulesHold self.old.clusters (tables_now self.old) }
@@ -101,6 +102,7 @@ impl<D: Disk> Tables<D> {
         ensures worn { IsErrOf result Fault.Worn ↔ IsTrue (would_wear self.old) }
         ensures wears { IsErrOf result Fault.Worn → self.new.worn ≡ true }
         ensures fresh { OnOk result (self.new.worn ≡ false) }
+        ensures tires { self.new.worn ≡ true → IsTrue (would_wear self.old) }
         ensures unspent { IsErrOf result Fault.Worn →
             (self.new.log.disk ≡ self.old.log.disk) × (states_of self.new ≡ states_of self.old) }
         ensures still_stored { (stored : Typed) → IsTables self.old stored →

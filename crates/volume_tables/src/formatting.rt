@@ -16,6 +16,7 @@ ghost use Rattle.volume_inside.specs.Named.{clusters_of};
 ghost use Rattle.volume_inside.specs.Rules.{RulesHold};
 ghost use Rattle.volume_inside.specs.Superblock.{IsSuperblock, HasSuperblock};
 ghost use Rattle.vdisk.specs.Steps.{Keeps};
+ghost use Rattle.volume_tables.specs.Log.{log_epoch};
 ghost use Rattle.volume_tables.specs.Formats.{IsCommitted, IsFormatFault, with_results};
 ghost use Rattle.volume_tables.specs.Formats.{IsBegun, IsMakeImage, SpellsNoFile};
 ghost use Rattle.volume_inside.specs.Shows.{Kept};
@@ -93,6 +94,7 @@ fn stage_results<D: Disk>(log: &mut MetaLog<D>) -> Result<(), MetaFault>
     ensures disk { log.new.disk ≡ log.old.disk }
     ensures at { log.new.at ≡ log.old.at }
     ensures half { log.new.half ≡ log.old.half }
+    ensures epoch { log_epoch log.new ≡ log_epoch log.old }
     ensures stopped { log.new.stopped ≡ log.old.stopped }
 {
     log.stage_put(&[10, 1], &NO_RESULT)?;
@@ -110,6 +112,7 @@ fn stage_first<D: Disk>(log: &mut MetaLog<D>, settings: &[u8]) -> Result<(), Met
     ensures disk { log.new.disk ≡ log.old.disk }
     ensures at { log.new.at ≡ log.old.at }
     ensures half { log.new.half ≡ log.old.half }
+    ensures epoch { log_epoch log.new ≡ log_epoch log.old }
     ensures stopped { log.new.stopped ≡ log.old.stopped }
 {
     log.stage_put(&[1], &FIRST_RECORD)?;
@@ -138,6 +141,7 @@ fn commit_first<D: Disk>(
     ensures at { IfOk result (λ new. new.at ≡ log.at) }
     ensures half { IfOk result (λ new. new.half ≡ log.half) }
     ensures staged { IfOk result (λ new. staged_of new ≡ 0) }
+    ensures epoch { IfOk result (λ new. log_epoch new ≤ log_epoch log + 1) }
     ensures runs { IfOk result (λ new. new.stopped ≡ false) }
     ensures refused { IfErr result (λ e. ((e.1 ≡ MountFault.Failed) × Rose (state_of log).faults (D.state e.0).faults)
         ⊎ (e.1 ≡ MountFault.Memory)) }
@@ -198,6 +202,7 @@ fn make_log<D: Disk>(
     ensures empty { IfOk result (λ log. now_of log ≡ []) }
     ensures at { IfOk result (λ log. log.at ≡ journal_at) }
     ensures half { IfOk result (λ log. log.half ≡ half_of clusters) }
+    ensures epoch { IfOk result (λ log. log_epoch log ≡ 1) }
     ensures runs { IfOk result (λ log. log.stopped ≡ false) }
     ensures refused { IfErr result (λ e. ((e.1 ≡ MountFault.Failed) × Rose (D.state disk).faults (D.state e.0).faults)
         ⊎ (e.1 ≡ MountFault.Memory)) }
@@ -258,6 +263,7 @@ fn make<D: Disk>(alloc: Global, disk: D, clusters: u32) -> Result<Tables<D>, (D,
     ensures rules { IfOk result (λ tables. RulesHold clusters (tables_now tables)) }
     ensures clusters { IfOk result (λ tables. tables.clusters ≡ clusters) }
     ensures staged { IfOk result (λ tables. staged_in tables ≡ 0) }
+    ensures epoch { IfOk result (λ tables. log_epoch tables.log ≤ 2) }
     ensures runs { IfOk result (λ tables. stopped tables ≡ false) }
     ensures fresh { IfOk result (λ tables. tables.worn ≡ false) }
     ensures moments { IsTrue (D.state disk).tells →
@@ -300,6 +306,7 @@ impl<D: Disk> Tables<D> {
         ensures rules { IfOk result (λ tables. RulesHold tables.clusters (tables_now tables)) }
         ensures clusters { IfOk result (λ tables. tables.clusters ≡ clusters) }
         ensures staged { IfOk result (λ tables. staged_in tables ≡ 0) }
+        ensures epoch { IfOk result (λ tables. log_epoch tables.log ≤ 2) }
         ensures runs { IfOk result (λ tables. stopped tables ≡ false) }
         ensures fresh { IfOk result (λ tables. tables.worn ≡ false) }
         ensures moments { IsTrue (D.state disk).tells →

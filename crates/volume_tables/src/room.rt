@@ -56,6 +56,7 @@ impl<D: Disk> Tables<D> {
         ensures wears { (IsRoomFor self.old records clusters → ⊥) →
             clusters ≤ free_in (states_of self.old) + deferred_in (states_of self.old) →
             IsTrue (would_wear self.old) → IsErrOf result Fault.Worn }
+        ensures tires { self.new.worn ≡ true → IsTrue (would_wear self.old) }
         ensures at_once { IsRoomFor self.old records clusters → IsOk result × (self.new ≡ self.old) }
         ensures unspent { OnErr result (IsErrOf result Fault.Failed ⊎
             ((self.new.log.disk ≡ self.old.log.disk) × (states_of self.new ≡ states_of self.old))) }

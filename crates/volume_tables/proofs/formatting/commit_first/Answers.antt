@@ -1,9 +1,10 @@
-use Rattle.std.proofs.Common.{[], ap, subst, sym, ◌∙◌, length, inr, refl}
+use Rattle.std.proofs.Common.{[], ap, subst, sym, ◌∙◌, length, inr, refl, arith}
 use Rattle.byte_map.specs.Words.{Map}
-use Rattle.meta_log.specs.Log.{IsLog, state_of, now_of}
+use Rattle.meta_log.specs.Log.{IsLog, state_of, now_of, needs_checkpoint}
 use Rattle.vdisk.specs.Steps.{Keeps}
 use Rattle.volume_tables.specs.Formats.{SpellsNoFile}
 use Rattle.volume_tables.proofs.Committed.{committed}
+use Rattle.volume_tables.proofs.Committing.{one_or_none}
 use Rattle.volume_tables.proofs.Formatted.{first_start, first_committed, first_staged}
 use Rattle.volume_tables.proofs.formatting.commit_first.Goals as goal
 
@@ -69,9 +70,19 @@ returns-in-Err-commit g c =
       at = tt;
       half = tt;
       staged = tt;
+      epoch = tt;
       runs = tt;
       refused = inr refl;
       same = tt;
       same_err = subst (λ (x : g.row.D.Denot). g.D.Disk.is_same l.disk x) (sym into)
           (subst (λ (x : g.row.D.Denot). g.D.Disk.is_same x c.commit.new.self.disk) s.disk c.commit.ensures.same);
     }
+
+pub returns-in-Ok-commit-clause-epoch : goal.returns-in-Ok-commit-clause-epoch
+returns-in-Ok-commit-clause-epoch g c =
+    omega (
+      arith,
+      c.in-Ok-commit.ensures.epoch,
+      c.stage_first.ensures.epoch,
+      one_or_none (needs_checkpoint c.stage_first.new.log),
+    )
