@@ -4,6 +4,7 @@ mod formats;
 mod many;
 mod mounts;
 mod results;
+mod settings;
 
 use crate::Tables;
 use std::alloc::Global;
