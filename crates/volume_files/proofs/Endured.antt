@@ -1,5 +1,5 @@
 -- How what every call keeps goes on from step to step.
-use Rattle.std.specs.Prelude.{◌≡◌, ◌≤◌, ◌+◌, false, refl}
+use Rattle.std.specs.Prelude.{◌≡◌, ◌≤◌, ◌+◌, true, false, IsTrue, refl}
 use Rattle.std.proofs.Common.{inl, inr, sym, ◌∙◌, subst, ⊎_elim, arith}
 use Rattle.vdisk.specs.Steps.{Keeps, keeps_as, keeps_then, keeps_start}
 use Rattle.vdisk.specs.declared.disk.Disk.{Ghosts}
@@ -7,8 +7,9 @@ use Rattle.plain_volume.specs.Volume.{Volume}
 use Rattle.volume_inside.specs.Shows.{Area, Shows, Kept, ShowsEither}
 use Rattle.volume_inside.specs.Typed.{Typed}
 use Rattle.volume_tables.specs.Log.{log_epoch, IsSameLog}
-use Rattle.volume_tables.specs.Tables.{tables_now, view_now, disk_of, area_of, stopped, IsTables, Leaves, GoesOn}
+use Rattle.volume_tables.specs.Tables.{tables_now, view_now, disk_of, area_of, stopped, would_wear, IsTables, Leaves, GoesOn}
 use Rattle.volume_tables.specs.declared.tables.Tables.{Tables}
+use Rattle.volume_tables.proofs.Committing.{worn_wears}
 use Rattle.volume_tables.proofs.Leaving.{area_same}
 use Rattle.volume_files.specs.Sound.{IsKept, Endures}
 
@@ -23,6 +24,7 @@ module _ {D : Type 0} {d : Ghosts D} where
     later = omega arith;
     same = self a.log.disk;
     epoch = λ runs. omega arith;
+    worn = λ runs worn. worn_wears a worn;
   }
 
   -- room was made, or refused
@@ -32,8 +34,9 @@ module _ {D : Type 0} {d : Ghosts D} where
       → ((stored : Typed) (w : Volume) → IsTables a stored → Kept (area_of a) (disk_of a) w → stopped b ≡ false
       → GoesOn a b stored w)
       → (disk_of a).faults ≤ (disk_of b).faults → IsSameLog a.log b.log
-      → (stopped b ≡ false → log_epoch b.log ≤ log_epoch a.log + 1) → Endures a b
-  endures_room a b clusters moments goes_on later same epoch = record {
+      → (stopped b ≡ false → log_epoch b.log ≤ log_epoch a.log + 1) → (b.worn ≡ true → IsTrue (would_wear a))
+      → Endures a b
+  endures_room a b clusters moments goes_on later same epoch tires = record {
     clusters = clusters;
     moments = λ w kept. moments kept.stored w kept.tables kept.kept;
     kept = λ w kept runs.
@@ -44,6 +47,7 @@ module _ {D : Type 0} {d : Ghosts D} where
     later = later;
     same = same;
     epoch = epoch;
+    worn = λ runs worn. tires worn;
   }
     where
       by : (w : Volume) (stored : Typed) → IsTables b stored → Kept (area_of a) (disk_of b) w → IsKept b w
@@ -75,6 +79,7 @@ module _ {D : Type 0} {d : Ghosts D} where
     later = omega (arith, first.later, second.later);
     same = next a.log.disk b.log.disk c.log.disk first.same second.same;
     epoch = λ run. let one = first.epoch runs in omega (arith, one, second.epoch);
+    worn = λ run worn. first.worn runs (sym second.worn ∙ worn);
   }
     where
       leaves_kept : (w : Volume) → IsKept b w → Keeps (disk_of b) (disk_of c) (Shows (area_of b) w) × IsKept c w

@@ -22,3 +22,4 @@ pub mod GoneFile
 pub mod OtherName
 pub mod Written
 pub mod WriteReplies
+pub mod Spent

@@ -7,3 +7,4 @@ pub mod Names
 pub mod Reads
 pub mod Lengths
 pub mod Stages
+pub mod Spending

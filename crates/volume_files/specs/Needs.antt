@@ -1,6 +1,6 @@
 -- What each call asks for.
 use Rattle.std.specs.Prelude.{◌+◌, ◌-◌, ◌*◌, ◌/◌, ◌%◌, ◌&&◌, ℕ, zero, suc, Bool, true, false, cond, nat_lt, List}
-use Rattle.std.specs.Prelude.{length, Option, Some, None}
+use Rattle.std.specs.Prelude.{[], ◌∷◌, length, Option, Some, None}
 use Rattle.std.specs.FinMap.{find}
 use Rattle.table_records.specs.Keys.{pair_cmp}
 use Rattle.table_records.specs.declared.records.Extent.{Extent}
@@ -30,6 +30,11 @@ first_touched at = at / 4096
 
 abbrev pub touched : ℕ → ℕ → ℕ
 touched at count = (at + count - 1) / 4096 + 1 - at / 4096
+
+-- the clusters of a file that these bytes touch at a place
+abbrev pub touched_at : ℕ → List ℕ → ℕ
+touched_at at [] = 0
+touched_at at (b ∷ bytes) = touched at (length (b ∷ bytes))
 
 abbrev pub one_if_none : {V : Type 0} → Option V → ℕ
 one_if_none None = 1

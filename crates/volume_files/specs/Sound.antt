@@ -1,5 +1,5 @@
 -- What holds between two calls on the files of a volume, and what each call keeps at every moment.
-use Rattle.std.specs.Prelude.{◌≡◌, ◌⊎◌, ◌≤◌, ◌+◌, false, length}
+use Rattle.std.specs.Prelude.{◌≡◌, ◌⊎◌, ◌≤◌, ◌+◌, true, false, IsTrue, length}
 use Rattle.vdisk.specs.Steps.{Keeps}
 use Rattle.vdisk.specs.declared.disk.Disk.{Ghosts}
 use Rattle.cluster_space.specs.States.{free_in, deferred_in}
@@ -11,7 +11,7 @@ use Rattle.volume_inside.specs.Rules.{RulesHold}
 use Rattle.volume_inside.specs.Shows.{Kept, ShowsEither}
 use Rattle.volume_tables.specs.Log.{log_epoch, IsSameLog}
 use Rattle.volume_tables.specs.Tables.{tables_now, view_now, states_of, disk_of, area_of, clusters_in, stopped}
-use Rattle.volume_tables.specs.Tables.{IsTables}
+use Rattle.volume_tables.specs.Tables.{would_wear, IsTables}
 use Rattle.volume_tables.specs.declared.tables.Tables.{Tables}
 
 module _ {D : Type 0} {d : Ghosts D} where
@@ -40,3 +40,5 @@ module _ {D : Type 0} {d : Ghosts D} where
     pub same : IsSameLog old.log new.log
     -- a call commits once at most, and a commit takes one epoch at most
     pub epoch : stopped new ≡ false → log_epoch new.log ≤ log_epoch old.log + 1
+    -- and a commit is refused as worn only where it would have been refused so before the call
+    pub worn : stopped new ≡ false → new.worn ≡ true → IsTrue (would_wear old)

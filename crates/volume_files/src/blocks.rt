@@ -20,6 +20,7 @@ ghost use Rattle.volume_tables.specs.Frames.{NamesNoFree};
 ghost use Rattle.volume_tables.specs.Tables.{tables_now, inside_now, states_of, staged_of, checkpoint_of, disk_of};
 ghost use Rattle.volume_tables.specs.Tables.{stopped, IsTables, Leaves};
 ghost use Rattle.volume_files.specs.Needs.{missing};
+ghost use Rattle.volume_files.specs.Spending.{Spends};
 ghost use Rattle.volume_files.specs.Writing.{blocks_up_to, laid_from, AreExtentsSet, LosesNone};
 
 use crate::block::{BLOCK, write_block};
@@ -84,6 +85,7 @@ pub(crate) fn write_blocks<D: Disk>(
     ensures frame { (t : Typed) → NamesNoFree tables.old.clusters (states_of tables.old) t →
         inside_at t (disk_of tables.new).image ≡ inside_at t (disk_of tables.old).image }
     ensures leaves { Leaves tables.old tables.new }
+    ensures spends { Spends (blocks_up_to (at + length bytes.now) index) 0 tables.old tables.new }
     ensures deferred { (k : ℕ) → IsIn (states_of tables.old) k Deferred → IsIn (states_of tables.new) k Deferred }
     ensures loses_none { LosesNone tables.old tables.new }
     ensures staged { staged_of tables.new ≤

@@ -10,6 +10,7 @@ ghost use Rattle.volume_tables.specs.Tables.{disk_of, stopped, Leaves};
 ghost use Rattle.volume_files.specs.Names.{with_new, IsNewName, IsRefused};
 ghost use Rattle.volume_files.specs.Needs.{create_needs};
 ghost use Rattle.volume_files.specs.Sound.{IsSound, Endures};
+ghost use Rattle.volume_files.specs.Spending.{Spends};
 ghost use Rattle.volume_files.specs.Wants.{last_id, wanting, IsRepliedOrMemory};
 
 use crate::room::make_room;
@@ -80,6 +81,7 @@ pub fn create<D: Disk>(tables: &mut Tables<D>, name: &[u8]) -> Result<(), Fault>
     ensures same { OnErr result (tables_now tables.new ≡ tables_now tables.old) }
     ensures sound { IsSound tables.new }
     ensures endures { Endures tables.old tables.new }
+    ensures spends { Spends 0 1 tables.old tables.new }
     ensures stops { stopped tables.new ≡ true → IsErrOf result Fault.Failed }
 {
     check_new(tables, name)?;

@@ -12,6 +12,7 @@ ghost use Rattle.volume_tables.specs.Tables.{tables_now, view_now, staged_of, di
 ghost use Rattle.volume_files.specs.Names.{is_other, without_name, AreShort};
 ghost use Rattle.volume_files.specs.Needs.{delete_needs};
 ghost use Rattle.volume_files.specs.Sound.{IsSound, Endures};
+ghost use Rattle.volume_files.specs.Spending.{Spends};
 ghost use Rattle.volume_files.specs.Stages.{Stages};
 ghost use Rattle.volume_files.specs.Wants.{wanting, IsReplied};
 
@@ -82,6 +83,7 @@ pub fn delete<D: Disk>(tables: &mut Tables<D>, name: &[u8]) -> Result<(), Fault>
     ensures same { OnErr result (tables_now tables.new ≡ tables_now tables.old) }
     ensures sound { IsSound tables.new }
     ensures endures { Endures tables.old tables.new }
+    ensures spends { Spends 0 0 tables.old tables.new }
     ensures stops { stopped tables.new ≡ true → IsErrOf result Fault.Failed }
 {
     let (id, _) = find_file(tables, name)?;

@@ -12,6 +12,7 @@ ghost use Rattle.volume_tables.specs.Tables.{stopped};
 ghost use Rattle.volume_files.specs.Names.{with_renamed, AreShort, IsRenaming, IsRefused};
 ghost use Rattle.volume_files.specs.Needs.{rename_needs};
 ghost use Rattle.volume_files.specs.Sound.{IsSound, Endures};
+ghost use Rattle.volume_files.specs.Spending.{Spends};
 ghost use Rattle.volume_files.specs.Stages.{Stages};
 ghost use Rattle.volume_files.specs.Wants.{wanting, IsRepliedOrMemory};
 
@@ -75,6 +76,7 @@ pub fn rename<D: Disk>(tables: &mut Tables<D>, from: &[u8], to: &[u8]) -> Result
     ensures same { OnErr result (tables_now tables.new ≡ tables_now tables.old) }
     ensures sound { IsSound tables.new }
     ensures endures { Endures tables.old tables.new }
+    ensures spends { Spends 0 0 tables.old tables.new }
     ensures stops { stopped tables.new ≡ true → IsErrOf result Fault.Failed }
 {
     let id = check_names(tables, from, to)?;

@@ -12,6 +12,7 @@ ghost use Rattle.volume_files.specs.Found.{IsFileOf};
 ghost use Rattle.volume_files.specs.Needs.{length_needs, set_at_end};
 ghost use Rattle.volume_files.specs.Lengths.{cut_extent, end_cut, cut_at, resized_in, length_wants};
 ghost use Rattle.volume_files.specs.Sound.{IsSound, Endures};
+ghost use Rattle.volume_files.specs.Spending.{Spends};
 ghost use Rattle.volume_files.specs.Stages.{Stages};
 ghost use Rattle.volume_files.specs.Wants.{IsReplied};
 
@@ -109,6 +110,7 @@ pub fn set_length<D: Disk>(tables: &mut Tables<D>, name: &[u8], length: u64) -> 
     ensures left { view_now tables.new ≡ after (view_now tables.old) (SetLength name.now length) (done_reply result) }
     ensures sound { IsSound tables.new }
     ensures endures { Endures tables.old tables.new }
+    ensures spends { Spends 0 0 tables.old tables.new }
     ensures stops { stopped tables.new ≡ true → IsErrOf result Fault.Failed }
     ensures same { OnErr result (tables_now tables.new ≡ tables_now tables.old) }
     ensures resized { (id : ℕ) (file : FileRecord) → IsFileOf tables.old name.now id file →

@@ -15,8 +15,9 @@ ghost use Rattle.volume_inside.specs.Typed.{Typed};
 ghost use Rattle.volume_inside.specs.View.{file_cells};
 ghost use Rattle.volume_tables.specs.Tables.{tables_now, inside_now, states_of, staged_of, checkpoint_of, disk_of};
 ghost use Rattle.volume_tables.specs.Tables.{clusters_in, stopped, IsTables, IsRoomFor, Leaves};
-ghost use Rattle.volume_files.specs.Needs.{missing, first_touched, touched, write_needs};
+ghost use Rattle.volume_files.specs.Needs.{missing, first_touched, touched, touched_at, write_needs};
 ghost use Rattle.volume_files.specs.Sound.{IsSound, IsKept, Endures};
+ghost use Rattle.volume_files.specs.Spending.{Spends};
 ghost use Rattle.volume_files.specs.Wants.{wanting, IsWanting, IsRepliedOrMemory};
 ghost use Rattle.volume_files.specs.Writing.{AreWritten, IsWritten, write_wants};
 
@@ -104,6 +105,7 @@ fn write_with_room<D: Disk>(
         file_cells (inside_now tables.new) other ≡ file_cells (inside_now tables.old) other) }
     ensures sound { IsSound tables.new }
     ensures leaves { Leaves tables.old tables.new }
+    ensures spends { Spends (touched at (length bytes.now)) 0 tables.old tables.new }
     ensures stops { stopped tables.new ≡ true → IsErrOf result Fault.Failed }
     ensures refused { OnErr result (IsErrOf result Fault.Failed ⊎ IsErrOf result Fault.Memory) }
     ensures failed { IsErrOf result Fault.Failed → Rose (disk_of tables.old).faults (disk_of tables.new).faults }
@@ -142,6 +144,7 @@ pub fn write_plain<D: Disk>(
     ensures err_inside { OnErr result (inside_now tables.new ≡ inside_now tables.old) }
     ensures sound { IsSound tables.new }
     ensures endures { Endures tables.old tables.new }
+    ensures spends { Spends (touched_at at bytes.now) 0 tables.old tables.new }
     ensures stops { stopped tables.new ≡ true → IsErrOf result Fault.Failed }
     ensures failed { IsErrOf result Fault.Failed → Rose (disk_of tables.old).faults (disk_of tables.new).faults }
 {

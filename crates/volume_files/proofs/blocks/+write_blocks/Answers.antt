@@ -16,6 +16,7 @@ use Rattle.volume_files.proofs.Extents.{found_put}
 use Rattle.volume_files.proofs.Setting.{sorted_now, held_now}
 use Rattle.volume_files.proofs.States.{places_differ, used_is_not_deferred}
 use Rattle.volume_files.proofs.Touched.{fits_next, extents_then, cells_then, put_covers, cell_apart}
+use Rattle.volume_files.proofs.Spent.{spends_none, spends_then, spends_block}
 use Rattle.volume_files.proofs.blocks.+write_blocks.Goals as goal
 
 pub write_blocks-requires : goal.write_blocks-requires
@@ -143,3 +144,26 @@ returns-in-Err-clause-deferred g t c k is =
     let place : o.cluster - first_data_cluster a.clusters ≡ k = omega (arith, same, first, has.from_first) in
     places_differ a.space (o.cluster - first_data_cluster a.clusters) k Used Deferred used_is_not_deferred has.is is
     place)
+
+pub returns-in_err-write_block-clause-spends : goal.returns-in_err-write_block-clause-spends
+returns-in_err-write_block-clause-spends g t c =
+    spends_none (blocks_up_to (c.args.at + length c.args.bytes.now) c.args.index) 0 c.args.tables.now
+    c.write_block.new.tables c.in_err-write_block.ensures.err
+
+pub returns-in-Ok-clause-spends : goal.returns-in-Ok-clause-spends
+returns-in-Ok-clause-spends g t c =
+    let a = c.args.tables.now in
+    let u = c.write_block.new.tables in
+    let to : ℕ = c.args.at + length c.args.bytes.now in
+    let low : 4096 * c.args.index < to = omega arith in
+    let fewer : blocks_up_to to (c.args.index + 1) + 1 ≡ blocks_up_to to c.args.index = omega arith in
+    spends_then 1 (blocks_up_to to (c.args.index + 1)) (blocks_up_to to c.args.index) a u c.write_blocks.new.tables
+    (spends_block a u (c.args.file, c.args.index) c.in_ok-write_block.field-0 c.in_ok-write_block.ensures.ok)
+    c.write_blocks.ensures.spends (omega (arith, fewer))
+
+pub returns-in-Err-clause-spends : goal.returns-in-Err-clause-spends
+returns-in-Err-clause-spends g t c =
+    let a = c.args.tables.now in
+    spends_none (blocks_up_to (c.args.at + length c.args.bytes.now) c.args.index) 0 a c.take_back.new.tables
+    (c.take_back.ensures.tables (tables_now a) c.in_ok-write_block.field-0 (sorted_now a)
+    (sym c.get_extent-was.ensures) (c.in-Err.ensures.err ∙ c.in_ok-write_block.ensures.ok))

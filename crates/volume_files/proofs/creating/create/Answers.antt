@@ -11,6 +11,7 @@ use Rattle.volume_files.proofs.Endured.{endures_leaves}
 use Rattle.volume_files.proofs.Finished.{finished_reply, finished_left}
 use Rattle.volume_files.proofs.NewFile.{answered_new, view_made, view_unmade, sound_made}
 use Rattle.volume_files.proofs.Wanted.{replied_want}
+use Rattle.volume_files.proofs.Spent.{spends_none, spends_new}
 use Rattle.volume_files.proofs.creating.create.Goals as goal
 
 pub returns-in_err-make_room-clause-reply : goal.returns-in_err-make_room-clause-reply
@@ -70,3 +71,12 @@ returns-clause-endures g c =
     endures_leaves g.met.D.Disk.same_next c.args.tables.now c.make_room.new.tables c.put_file.new.tables
     c.make_room.ensures.endures
     c.in_ok-make_room.ensures.runs c.put_file.ensures.leaves
+
+pub returns-in_err-make_room-clause-spends : goal.returns-in_err-make_room-clause-spends
+returns-in_err-make_room-clause-spends g c =
+    spends_none 0 1 c.args.tables.now c.make_room.new.tables c.make_room.ensures.now
+
+pub returns-clause-spends : goal.returns-clause-spends
+returns-clause-spends g c =
+    spends_new c.args.tables.now c.make_room.new.tables c.put_file.new.tables c.make_room.ensures.now c.args.name.now
+    c.put_file.result c.put_file.ensures.ok c.put_file.ensures.err

@@ -7,6 +7,7 @@ use Rattle.volume_files.proofs.Found.{lawful_short}
 use Rattle.volume_files.proofs.GoneFile.{view_left_gone, sound_gone}
 use Rattle.volume_files.proofs.OneName.{short_names}
 use Rattle.volume_files.proofs.Resized.{small_id}
+use Rattle.volume_files.proofs.Spent.{spends_none, spends_gone}
 use Rattle.volume_files.proofs.deleting.delete.Goals as goal
 
 pub drop_all-requires-clause-short : goal.drop_all-requires-clause-short
@@ -46,3 +47,12 @@ returns-clause-endures g c =
     endures_leaves g.met.D.Disk.same_next c.args.tables.now c.make_room.new.tables c.drop_all.new.tables
     c.make_room.ensures.endures
     c.in_ok-make_room.ensures.runs c.drop_all.ensures.stages.leaves
+
+pub returns-in_err-make_room-clause-spends : goal.returns-in_err-make_room-clause-spends
+returns-in_err-make_room-clause-spends g c =
+    spends_none 0 0 c.args.tables.now c.make_room.new.tables c.make_room.ensures.now
+
+pub returns-clause-spends : goal.returns-clause-spends
+returns-clause-spends g c =
+    spends_gone c.args.tables.now c.make_room.new.tables c.drop_all.new.tables c.make_room.ensures.now c.args.name.now
+    c.in_ok-id.id c.drop_all.ensures.tables

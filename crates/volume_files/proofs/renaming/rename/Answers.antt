@@ -13,6 +13,7 @@ use Rattle.volume_files.proofs.Finished.{finished_reply, finished_left}
 use Rattle.volume_files.proofs.OneName.{short_names}
 use Rattle.volume_files.proofs.OtherName.{answered_renamed, view_put, view_unput, sound_put}
 use Rattle.volume_files.proofs.Wanted.{replied_want}
+use Rattle.volume_files.proofs.Spent.{spends_none, spends_renamed}
 use Rattle.volume_files.proofs.renaming.rename.Goals as goal
 
 pub returns-in_err-make_room-clause-reply : goal.returns-in_err-make_room-clause-reply
@@ -77,3 +78,12 @@ returns-clause-endures g c =
     endures_leaves g.met.D.Disk.same_next c.args.tables.now c.make_room.new.tables c.put_name.new.tables
     c.make_room.ensures.endures
     c.in_ok-make_room.ensures.runs c.put_name.ensures.stages.leaves
+
+pub returns-in_err-make_room-clause-spends : goal.returns-in_err-make_room-clause-spends
+returns-in_err-make_room-clause-spends g c =
+    spends_none 0 0 c.args.tables.now c.make_room.new.tables c.make_room.ensures.now
+
+pub returns-clause-spends : goal.returns-clause-spends
+returns-clause-spends g c =
+    spends_renamed c.args.tables.now c.make_room.new.tables c.put_name.new.tables c.make_room.ensures.now
+    c.args.from.now c.args.to.now c.in_ok-id.id c.put_name.result c.put_name.ensures.ok c.put_name.ensures.err

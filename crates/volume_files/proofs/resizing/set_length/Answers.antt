@@ -4,6 +4,7 @@ use Rattle.volume_tables.specs.Tables.{tables_now, clusters_in}
 use Rattle.volume_files.specs.Needs.{length_needs}
 use Rattle.volume_files.proofs.Endured.{endures_leaves}
 use Rattle.volume_files.proofs.Resized.{small_id, sound_resized, view_left}
+use Rattle.volume_files.proofs.Spent.{spends_none, spends_resized}
 use Rattle.volume_files.proofs.resizing.set_length.Goals as goal
 
 pub resize-requires-clause-id : goal.resize-requires-clause-id
@@ -38,3 +39,12 @@ pub returns-clause-endures : goal.returns-clause-endures
 returns-clause-endures g c =
     endures_leaves g.met.D.Disk.same_next c.args.tables.now c.make_room.new.tables c.resize.new.tables
     c.make_room.ensures.endures c.in_ok-make_room.ensures.runs c.resize.ensures.stages.leaves
+
+pub returns-in_err-make_room-clause-spends : goal.returns-in_err-make_room-clause-spends
+returns-in_err-make_room-clause-spends g c =
+    spends_none 0 0 c.args.tables.now c.make_room.new.tables c.make_room.ensures.now
+
+pub returns-clause-spends : goal.returns-clause-spends
+returns-clause-spends g c =
+    spends_resized c.args.tables.now c.make_room.new.tables c.resize.new.tables c.make_room.ensures.now
+    c.in_ok-id.id c.args.length c.in_ok-id.file c.resize.ensures.tables

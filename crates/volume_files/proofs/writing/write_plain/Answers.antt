@@ -5,9 +5,11 @@ use Rattle.plain_volume.specs.Step.{write}
 use Rattle.volume_inside.specs.Inside.{Inside}
 use Rattle.volume_inside.specs.View.{file_cells}
 use Rattle.volume_tables.specs.Tables.{tables_now, inside_now, disk_of}
+use Rattle.volume_files.specs.Needs.{touched_at}
 use Rattle.volume_files.specs.Writing.{write_wants}
 use Rattle.volume_files.proofs.Endured.{endures_leaves}
 use Rattle.volume_files.proofs.WriteReplies.{done, file_is_whole, reply_there, wants_some, still_kept}
+use Rattle.volume_files.proofs.Spent.{spends_none, spends_written}
 use Rattle.volume_files.proofs.writing.write_plain.Goals as goal
 
 pub returns-clause-reply : goal.returns-clause-reply
@@ -39,3 +41,15 @@ returns-clause-endures g c =
     endures_leaves g.met.D.Disk.same_next c.args.tables.now c.make_room_for_write.new.tables
     c.write_with_room.new.tables c.make_room_for_write.ensures.endures
     c.in_ok-make_room_for_write.ensures.runs c.write_with_room.ensures.leaves
+
+pub returns-in_err-make_room_for_write-clause-spends : goal.returns-in_err-make_room_for_write-clause-spends
+returns-in_err-make_room_for_write-clause-spends g c =
+    spends_none (touched_at c.args.at c.args.bytes.now) 0 c.args.tables.now c.make_room_for_write.new.tables
+    c.make_room_for_write.ensures.now
+
+pub returns-clause-spends : goal.returns-clause-spends
+returns-clause-spends g c =
+    let bytes = c.args.bytes.now in
+    let some : 0 < length bytes = search rules in
+    spends_written c.args.tables.now c.make_room_for_write.new.tables c.write_with_room.new.tables
+    c.make_room_for_write.ensures.now c.args.at bytes some c.write_with_room.ensures.spends

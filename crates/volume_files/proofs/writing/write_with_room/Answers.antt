@@ -1,4 +1,4 @@
-use Rattle.std.proofs.Common.{◌+◌, ℕ, length, sym, ◌∙◌, ap, subst, arith}
+use Rattle.std.proofs.Common.{◌+◌, ◌/◌, ℕ, length, sym, ◌∙◌, ap, subst, arith}
 use Rattle.std.specs.Prelude.{Option, IsSome}
 use Rattle.std.specs.Ordering.{nat_cmp}
 use Rattle.std.specs.FinMap.{find}
@@ -10,8 +10,11 @@ use Rattle.volume_inside.specs.Rules.{RulesHold}
 use Rattle.volume_tables.specs.Tables.{tables_now, disk_of}
 use Rattle.volume_tables.proofs.Framing.{on_err_any}
 use Rattle.volume_tables.proofs.Leaving.{leaves_then}
+use Rattle.volume_files.specs.Needs.{touched}
+use Rattle.volume_files.specs.Writing.{blocks_up_to}
 use Rattle.volume_files.proofs.Setting.{held_now, on_ok_there}
 use Rattle.volume_files.proofs.Written.{rules_grown, grown_short, cells_written, others_written}
+use Rattle.volume_files.proofs.Spent.{spends_none, spends_then, spends_record}
 use Rattle.volume_files.proofs.writing.write_with_room.Goals as goal
 
 pub write_blocks-requires-clause-rules : goal.write_blocks-requires-clause-rules
@@ -76,3 +79,23 @@ pub returns-clause-leaves : goal.returns-clause-leaves
 returns-clause-leaves g c =
     leaves_then g.met.D.Disk.same_next c.args.tables.now c.write_blocks.new.tables c.set_file.new.self
     c.write_blocks.ensures.leaves c.set_file.ensures.leaves
+
+pub returns-in_err-write_blocks-clause-spends : goal.returns-in_err-write_blocks-clause-spends
+returns-in_err-write_blocks-clause-spends g c =
+    spends_none (touched c.args.at (length c.args.bytes.now)) 0 c.args.tables.now c.write_blocks.new.tables
+    c.in_err-write_blocks.ensures.err
+
+pub returns-clause-spends : goal.returns-clause-spends
+returns-clause-spends g c =
+    let t = c.args.tables.now in
+    let b = c.write_blocks.new.tables in
+    let s = c.set_file.new.self in
+    let was = c.unwrap-grown.result in
+    let to : ℕ = c.args.at + length c.args.bytes.now in
+    let grown : FileRecord = record was { length = c.max.result } in
+    let there = subst (λ (o : Option FileRecord). IsSome o) (sym
+    (ap (λ (q : Typed). find nat_cmp c.args.file q.files) c.in_ok-write_blocks.ensures.ok.rest)) c.requires.there in
+    let set = on_ok_there c.set_file.result (c.set_file.ensures.set.in_place there) c.set_file.ensures.ok in
+    let some = c.requires.some in
+    spends_then (blocks_up_to to (c.args.at / 4096)) 0 (touched c.args.at (length c.args.bytes.now)) t b s
+    c.write_blocks.ensures.spends (spends_record b s c.args.file grown set) (omega (arith, some))

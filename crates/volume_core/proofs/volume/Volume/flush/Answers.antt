@@ -44,4 +44,4 @@ returns-clause-endures g c =
       s.still_stored stored is worn,
       subst (λ (x : g.row.D.Denot). Kept (area_of t) (g.D.Disk.state x) w) (sym (s.unspent worn).0) kept,
     )))
-    s.later s.same s.epoch
+    s.later s.same s.epoch s.tires
