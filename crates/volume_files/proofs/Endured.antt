@@ -7,7 +7,8 @@ use Rattle.plain_volume.specs.Volume.{Volume}
 use Rattle.volume_inside.specs.Shows.{Area, Shows, Kept, ShowsEither}
 use Rattle.volume_inside.specs.Typed.{Typed}
 use Rattle.volume_tables.specs.Log.{log_epoch, IsSameLog}
-use Rattle.volume_tables.specs.Tables.{tables_now, view_now, disk_of, area_of, stopped, would_wear, IsTables, Leaves, GoesOn}
+use Rattle.volume_tables.specs.Tables.{tables_now, view_now, disk_of, area_of, stopped, would_wear}
+use Rattle.volume_tables.specs.Tables.{IsTables, Leaves, GoesOn}
 use Rattle.volume_tables.specs.declared.tables.Tables.{Tables}
 use Rattle.volume_tables.proofs.Committing.{worn_wears}
 use Rattle.volume_tables.proofs.Leaving.{area_same}

@@ -31,7 +31,8 @@ use Rattle.volume_files.proofs.Setting.{sorted_now}
 abbrev named_in : Typed → ℕ
 named_in t = length (clusters_of t)
 
-fewer_kept : (test : FileBlock → Bool) (es : List (FileBlock × Extent)) → length (where_key pair_cmp test es) ≤ length es
+fewer_kept : (test : FileBlock → Bool) (es : List (FileBlock × Extent))
+    → length (where_key pair_cmp test es) ≤ length es
 fewer_kept test [] = omega arith
 fewer_kept test (e ∷ es) = by (test e.0) (fewer_kept test es)
   where
@@ -101,7 +102,8 @@ beside_if k None t = refl
 beside_if k (Some e) t = refl
 
 beside_cut : (b : Bool) (id len : ℕ) (t : Typed) → beside (cut_if b id len t) ≡ beside t
-beside_cut true id len t = beside_if (id, len / 4096) (cut_extent (len % 4096) (find pair_cmp (id, len / 4096) t.extents)) t
+beside_cut true id len t =
+    beside_if (id, len / 4096) (cut_extent (len % 4096) (find pair_cmp (id, len / 4096) t.extents)) t
 beside_cut false id len t = refl
 
 -- ---- what a call spends
