@@ -16,7 +16,7 @@ use plain_volume::Name;
 use plain_volume::limits::MOST_FILES;
 use std::alloc::Global;
 use vdisk::Disk;
-use volume_core::Volume;
+use volume_core::{Volume, volume_is_lawful};
 
 /// The bytes of a name, if there is one.
 fn bytes_in(name: &Option<Name>) -> Option<&[u8]>
@@ -71,7 +71,7 @@ pub(crate) fn list<D: Disk>(volume: &Volume<D>, alloc: Global, text: &mut Vec<u8
     ensures told { Attempts (Bare Listing) volume.now volume.now result text.new.items }
     ensures steady { IsSteady volume.now volume.now result }
 {
-    volume.is_lawful();
+    volume_is_lawful(volume);
     text.clear();
     let mut last = None;
     let mut count = 0;

@@ -1,6 +1,6 @@
 -- What is spent where a resource is wanting.
-use Rattle.std.specs.Prelude.{◌≡◌, ◌≢◌, ◌≤◌, ◌<◌, ◌+◌, ◌*◌, ◌&&◌, ◌||◌, ◌==◌, ◌++◌, ℕ, Bool, true, false, not}
-use Rattle.std.specs.Prelude.{cond, nat_eq, nat_lt, T}
+use Rattle.std.specs.Prelude.{◌≡◌, ◌≢◌, ◌≤◌, ◌<◌, ◌+◌, ◌-◌, ◌*◌, ◌^◌, ◌&&◌, ◌||◌, ◌==◌, ◌++◌, ℕ, Bool, true}
+use Rattle.std.specs.Prelude.{false, not, cond, nat_eq, nat_lt, T}
 use Rattle.std.specs.Prelude.{List, [], ◌∷◌, length, Option, Some, None, refl}
 use Rattle.std.specs.List.{filter}
 use Rattle.std.specs.Ordering.{nat_cmp, is_lt, MatchOrdering}
@@ -10,7 +10,7 @@ use Rattle.std.specs.FinMap.Entries.{is_sorted, below_all}
 use Rattle.std.specs.declared.cmp.Ordering.{Ordering}
 use Rattle.std.specs.declared.cmp.Ordering.TheVariants.{Less, Equal, Greater}
 use Rattle.std.proofs.Common.{zero, suc, sym, ap, ◌∙◌, subst, arith}
-use Rattle.std.proofs.lemmas.Bool.{eqb-true, ltb-true, ne_eqb}
+use Rattle.std.proofs.lemmas.Bool.{eqb-true, ltb-true}
 use Rattle.std.proofs.lemmas.List.Filters.{length-filter_both}
 use Rattle.vdisk.specs.declared.disk.Disk.{Ghosts}
 use Rattle.meta_log.specs.Meta.{last_epoch}
@@ -132,13 +132,9 @@ missing_most t file first (suc n) =
     one None = omega arith
     one (Some e) = omega arith
 
-and_false : (b : Bool) → (b && false) ≡ false
-and_false true = refl
-and_false false = refl
-
 -- ---- what is spent
 
-module _ {D : Type 0} {d : Ghosts D} (v : Mounted D d) (b i e : ℕ) (has : HasSpent v b i e) where
+module _ {D : Type 0} {d : Ghosts D} (v : Mounted D d) (b i : ℕ) (has : HasSpent v b i) where
   view_bytes : files_bytes (view_now v) ≡ name_bytes (tables_now v.tables).names + 38 * length
       (tables_now v.tables).names
   unfolding view
@@ -158,29 +154,37 @@ module _ {D : Type 0} {d : Ghosts D} (v : Mounted D d) (b i e : ℕ) (has : HasS
       let clusters = clusters_count (typed extent_codec (log_now v.tables.log)) in
       omega (arith, told, one, four, settings, files, clusters, has.clusters, view_bytes)
 
-  not_worn : would_wear v.tables ≡ false
-  not_worn =
-      let far : nat_eq v.tables.log.epoch last_epoch ≡ false =
-      ne_eqb v.tables.log.epoch last_epoch (λ same. omega (arith, same, has.epochs, has.few_epochs)) in
-      let turns : Bool = nat_lt 0 (due_of v.tables) && nat_lt v.tables.log.half
-      (v.tables.log.place + (37 + due_of v.tables)) in
-      ap (λ (w : Bool). w || (turns && nat_eq v.tables.log.epoch last_epoch)) has.fresh
-      ∙ ap (λ (x : Bool). turns && x) far
-      ∙ and_false turns
+  -- a commit is refused as worn only where the last epoch is taken
+  pub worn_late : would_wear v.tables ≡ true → last_epoch ≤ i + 2
+  worn_late wears =
+      by v.tables.worn refl
+      (nat_lt 0 (due_of v.tables) && nat_lt v.tables.log.half (v.tables.log.place + (37 + due_of v.tables)))
+      (nat_eq v.tables.log.epoch last_epoch) refl wears
+    where
+      by : (was : Bool) → v.tables.worn ≡ was → (turns last : Bool) → nat_eq v.tables.log.epoch last_epoch ≡ last
+          → (was || (turns && last)) ≡ true → last_epoch ≤ i + 2
+      by true is turns last at wears = has.worn is
+      by false is turns last at wears =
+          let same = eqb-true v.tables.log.epoch last_epoch (at ∙ second_is turns last wears) in
+          omega (arith, same, has.epochs)
+
+  used_up : would_wear v.tables ≡ true → 2 ^ 48 - 2 ≤ i
+  used_up wears = let late = worn_late wears in omega (arith, late)
 
   first_told : (P : Fault → Type 0) (ids full few wears : Bool) (need free : ℕ) (fault : Fault) → (ids ≡ true → P Worn)
       → (full ≡ true → P TableFull)
-      → (few ≡ true → P (Full need free)) → wears ≡ false
+      → (few ≡ true → P (Full need free)) → (wears ≡ true → P Worn)
       → cond ids (Some Worn) (cond full (Some TableFull)
       (cond few (Some (Full need free)) (cond wears (Some Worn) None))) ≡ Some fault → P fault
-  first_told P true full few wears need free fault one two three none is = subst P (some_same Worn fault is) (one refl)
-  first_told P false true few wears need free fault one two three none is =
+  first_told P true full few wears need free fault one two three four is =
+      subst P (some_same Worn fault is) (one refl)
+  first_told P false true few wears need free fault one two three four is =
       subst P (some_same TableFull fault is) (two refl)
-  first_told P false false true wears need free fault one two three none is =
+  first_told P false false true wears need free fault one two three four is =
       subst P (some_same (Full need free) fault is) (three refl)
-  first_told P false false false true need free fault one two three none is =
-      absurd (let clash : true ≡ false = none in cc)
-  first_told P false false false false need free fault one two three none is =
+  first_told P false false false true need free fault one two three four is =
+      subst P (some_same Worn fault is) (four refl)
+  first_told P false false false false need free fault one two three four is =
       absurd (let clash : None ≡ Some fault = is in cc)
 
   told : (call : Call) (n : Needs) → n.grows ≤ named_by call + 24 * touched_by call → n.clusters ≤ touched_by call
@@ -194,7 +198,7 @@ module _ {D : Type 0} {d : Ghosts D} (v : Mounted D d) (b i e : ℕ) (has : HasS
       (λ full. let past = ltb-true (half_bytes (clusters_in v)) (checkpoint_of v.tables + n.grows) full in omega
       (arith, past, grows, checkpoint_most))
       (λ few. let less = ltb-true (free_of v.tables) n.clusters few in omega (arith, less, clusters, has.clusters))
-      (ap (λ (x : Bool). not (has_room v.tables n) && x) not_worn ∙ and_false (not (has_room v.tables n)))
+      (λ wears. used_up (second_is (not (has_room v.tables n)) (would_wear v.tables) wears))
       is
 
   of_file : (o : Option ℕ) (want : ℕ → Option Fault) (fault : Fault) (P : Type 0)
@@ -225,8 +229,13 @@ module _ {D : Type 0} {d : Ghosts D} (v : Mounted D d) (b i e : ℕ) (has : HasS
       (omega arith) fault want) is
   spent (Rename from to) fault is = told (Rename from to) (rename_needs from to) (omega arith) (omega arith) fault is
   spent (Delete name) fault is = told (Delete name) (delete_needs name) (omega arith) (omega arith) fault is
-  spent Flush fault is =
-      absurd (let clash : None ≡ Some fault = sym (ap (λ (w : Bool). cond w (Some Worn) None) not_worn) ∙ is in cc)
+  spent Flush fault is = flushed (would_wear v.tables) refl is
+    where
+      flushed : (w : Bool) → would_wear v.tables ≡ w → cond w (Some Worn) None ≡ Some fault
+          → IsSpent v b i Flush fault
+      flushed true wears want =
+          subst (IsSpent v b i Flush) (some_same Worn fault want) (used_up wears)
+      flushed false wears want = absurd (let clash : None ≡ Some fault = want in cc)
   spent (Read name at count) fault is = absurd (let clash : None ≡ Some fault = is in cc)
   spent (Digest name) fault is = absurd (let clash : None ≡ Some fault = is in cc)
   spent (Stat name) fault is = absurd (let clash : None ≡ Some fault = is in cc)

@@ -1,5 +1,5 @@
--- What a volume has spent, and what is spent where nothing is left for a call.
-use Rattle.std.specs.Prelude.{◌≡◌, ◌≤◌, ◌<◌, ◌+◌, ◌-◌, ◌*◌, ◌^◌, ℕ, false, List, [], ◌∷◌, length}
+-- What a volume has spent, what a call adds to it, and what is spent where nothing is left for a call.
+use Rattle.std.specs.Prelude.{◌≡◌, ◌≤◌, ◌<◌, ◌+◌, ◌-◌, ◌*◌, ◌^◌, ℕ, false, true, [], ◌∷◌, length}
 use Rattle.vdisk.specs.declared.disk.Disk.{Ghosts}
 use Rattle.meta_log.specs.Meta.{last_epoch}
 use Rattle.plain_volume.specs.Volume.{Volume}
@@ -15,19 +15,11 @@ use Rattle.volume_inside.specs.Named.{clusters_of}
 use Rattle.volume_inside.specs.Rules.{next_id_of}
 use Rattle.volume_tables.specs.Log.{log_epoch}
 use Rattle.volume_tables.specs.Tables.{tables_now}
-use Rattle.volume_files.specs.Needs.{touched}
-use Rattle.volume_core.specs.Volumes.{clusters_in, view_now}
+use Rattle.volume_files.specs.Needs.{touched_at}
+use Rattle.volume_core.specs.Volumes.{clusters_in, view_now, stopped}
 use Rattle.volume_core.specs.declared.volume.Volume.{Volume as Mounted}
 
--- 52 bytes of each file, and those of its name
-abbrev pub files_bytes : Volume → ℕ
-files_bytes [] = 0
-files_bytes (file ∷ files) = 52 + (length file.0 + files_bytes files)
-
--- the clusters of a file that these bytes touch at a place
-abbrev pub touched_at : ℕ → List ℕ → ℕ
-touched_at at [] = 0
-touched_at at (b ∷ bytes) = touched at (length (b ∷ bytes))
+-- ---- what a call takes
 
 -- the clusters that a call touches: a write alone touches any
 abbrev pub touched_by : Call → ℕ
@@ -42,6 +34,19 @@ touched_by (Stat name) = 0
 touched_by (Next after) = 0
 touched_by Flush = 0
 
+-- 1 for a call that may draw an id or take an epoch, 0 for one that only reads
+abbrev pub changed_by : Call → ℕ
+changed_by (Create name) = 1
+changed_by (Write name at bytes) = 1
+changed_by (SetLength name len) = 1
+changed_by (Rename from to) = 1
+changed_by (Delete name) = 1
+changed_by (Read name at count) = 0
+changed_by (Digest name) = 0
+changed_by (Stat name) = 0
+changed_by (Next after) = 0
+changed_by Flush = 1
+
 -- the bytes of tables that a call asks for, but for clusters: a file and its name, or a further name
 abbrev pub named_by : Call → ℕ
 named_by (Create name) = 52 + length name
@@ -55,30 +60,48 @@ named_by (Stat name) = 0
 named_by (Next after) = 0
 named_by Flush = 0
 
+-- ---- what is spent where a resource is wanting
+
+-- 52 bytes of each file, and those of its name
+abbrev pub files_bytes : Volume → ℕ
+files_bytes [] = 0
+files_bytes (file ∷ files) = 52 + (length file.0 + files_bytes files)
+
+-- WHY A RESOURCE IS WANTING FOR A CALL, over an image of n clusters that holds these files, where b clusters at most
+-- were touched before it: `worn` says why ids or epochs are used up; a half of the journal is shorter than 151 bytes,
+-- those of the files, of the one that a call makes or of a further name too, and 24 of each cluster that was touched
+-- or is now; or there are fewer data clusters than these.
+abbrev pub IsSpentIn : Type 0 → ℕ → Volume → ℕ → Call → Fault → Type 0
+IsSpentIn worn n files b call Worn = worn
+IsSpentIn worn n files b call TableFull =
+    half_bytes n < 151 + (files_bytes files + (named_by call + 24 * (b + touched_by call)))
+IsSpentIn worn n files b call (Full asked left) = data_clusters n < b + touched_by call
+IsSpentIn worn n files b call BadName = ⊥
+IsSpentIn worn n files b call NoFile = ⊥
+IsSpentIn worn n files b call Exists = ⊥
+IsSpentIn worn n files b call (OutsideFile length) = ⊥
+IsSpentIn worn n files b call (TooLarge most) = ⊥
+IsSpentIn worn n files b call Failed = ⊥
+IsSpentIn worn n files b call (Damaged place) = ⊥
+IsSpentIn worn n files b call Memory = ⊥
+
 module _ {D : Type 0} {d : Ghosts D} where
-  -- The tables name b clusters at most, i ids were drawn and e epochs taken at most, so that the last epoch is not
-  -- reached; no commit was refused for it, and the settings are those of a fresh volume.
-  pub record HasSpent (v : Mounted D d) (b i e : ℕ) : Type 0 where
+  -- What a volume has spent: the tables name b clusters at most; i ids at most were drawn, and as many epochs taken
+  -- beside the two of its making; a commit was refused for want of an epoch only where these reach the last one; and
+  -- the settings are those of a fresh volume.
+  pub record HasSpent (v : Mounted D d) (b i : ℕ) : Type 0 where
     pub clusters : length (clusters_of (tables_now v.tables)) ≤ b
     pub ids : next_id_of (tables_now v.tables) ≤ i + 1
-    pub epochs : log_epoch v.tables.log ≤ e + 1
-    pub few_epochs : e + 1 < last_epoch
-    pub fresh : v.tables.worn ≡ false
+    pub epochs : log_epoch v.tables.log ≤ i + 2
+    pub worn : v.tables.worn ≡ true → last_epoch ≤ i + 2
     pub settings : (tables_now v.tables).settings ≡ fresh_tables.settings
 
-  -- WHY A RESOURCE IS WANTING FOR A CALL: all ids are drawn; a half of the journal is shorter than 151 bytes, those of
-  -- the files, of the one that a call makes or of a further name too, and 24 of each cluster that is named or touched;
-  -- or there are fewer data clusters than these.
+  -- the same of a mounted volume that has spent so much: ids and epochs are used up after 2^48 - 2 calls that change,
+  -- and no sooner
   abbrev pub IsSpent : Mounted D d → ℕ → ℕ → Call → Fault → Type 0
-  IsSpent v b i call Worn = 2 ^ 48 - 2 ≤ i
-  IsSpent v b i call TableFull =
-      half_bytes (clusters_in v) < 151 + (files_bytes (view_now v) + (named_by call + 24 * (b + touched_by call)))
-  IsSpent v b i call (Full asked left) = data_clusters (clusters_in v) < b + touched_by call
-  IsSpent v b i call BadName = ⊥
-  IsSpent v b i call NoFile = ⊥
-  IsSpent v b i call Exists = ⊥
-  IsSpent v b i call (OutsideFile length) = ⊥
-  IsSpent v b i call (TooLarge most) = ⊥
-  IsSpent v b i call Failed = ⊥
-  IsSpent v b i call (Damaged place) = ⊥
-  IsSpent v b i call Memory = ⊥
+  IsSpent v b i = IsSpentIn (2 ^ 48 - 2 ≤ i) (clusters_in v) (view_now v) b
+
+  -- WHAT A CALL ADDS to what was spent, unless it stops the volume
+  abbrev pub Adds : Call → Mounted D d → Mounted D d → Type 0
+  Adds call old new = (b i : ℕ) → HasSpent old b i → stopped new ≡ false
+      → HasSpent new (b + touched_by call) (i + changed_by call)

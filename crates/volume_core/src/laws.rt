@@ -1,18 +1,27 @@
 //! Laws of a volume, each the contract of an empty function.
 
 ghost use Rattle.std.specs.Prelude.{◌≡◌, ℕ, Some};
+ghost use Rattle.plain_volume.specs.Volume.{IsLawfulVolume};
 ghost use Rattle.plain_volume.specs.declared.call.Call.{Call};
 ghost use Rattle.plain_volume.specs.declared.call.Fault.{Fault};
 ghost use Rattle.volume_core.specs.Bounds.{HasSpent, IsSpent};
+ghost use Rattle.volume_core.specs.Volumes.{view_now};
 ghost use Rattle.volume_core.specs.Wants.{wants_of};
 
 use crate::volume::Volume;
 use vdisk::Disk;
 
+/// The names of a volume are lawful and in the order of their bytes, no file is too long, and there are not too many.
+pub fn volume_is_lawful<D: Disk>(volume: &Volume<D>)
+    ensures { IsLawfulVolume (view_now volume.now) }
+{
+    let _tables = &volume.tables;
+}
+
 /// Where a resource is wanting for a call, it is spent: what the volume has spent so far and what the call asks for
-/// tell it, in terms of its files and of counts of clusters, ids and epochs.
+/// tell it, in terms of its files and of counts of clusters and of calls that change.
 pub fn what_is_wanting_is_spent<D: Disk>(volume: &Volume<D>)
-    ensures { (b i e : ℕ) (call : Call) (fault : Fault) → HasSpent volume.now b i e →
+    ensures { (b i : ℕ) (call : Call) (fault : Fault) → HasSpent volume.now b i →
         wants_of volume.now call ≡ Some fault → IsSpent volume.now b i call fault }
 {
     let _tables = &volume.tables;

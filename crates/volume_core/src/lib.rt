@@ -11,6 +11,6 @@ mod reads;
 mod tests;
 mod volume;
 
-pub use laws::what_is_wanting_is_spent;
+pub use laws::{volume_is_lawful, what_is_wanting_is_spent};
 pub use volume::Volume;
 pub use volume_tables::MountFault;

@@ -3,7 +3,7 @@
 ghost use Rattle.std.specs.Prelude.{◌≡◌, ◌⊎◌, ◌≤◌, false, length, take, IfSome, IsErrOf, OnErr};
 ghost use Rattle.std.specs.Option.{option_map};
 ghost use Rattle.vdisk.specs.Causes.{Rose};
-ghost use Rattle.plain_volume.specs.Volume.{Volume as PlainVolume, IsLawfulVolume};
+ghost use Rattle.plain_volume.specs.Volume.{Volume as PlainVolume};
 ghost use Rattle.plain_volume.specs.Step.{plain};
 ghost use Rattle.plain_volume.specs.Replies.{own_reply, bytes_reply, done_reply, IsOwnOrMemory};
 ghost use Rattle.plain_volume.specs.declared.call.Call.TheVariants.{Read, Digest, Stat, Next};
@@ -79,12 +79,6 @@ impl<D: Disk> Volume<D> {
         let (_file, record) = find_file(&self.tables, name)?;
         Ok(record.length)
     }
-
-    /// Its names are lawful and in the order of their bytes, no file is too long, and there are not too many. It does
-    /// nothing, and stands for this law.
-    pub fn is_lawful(&self)
-        ensures { IsLawfulVolume (view_now self.now) }
-    {}
 
     /// A copy of the least name above `after`, in the order of their bytes, or of the least of all. The only fault is
     /// `Memory`.

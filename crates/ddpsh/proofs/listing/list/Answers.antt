@@ -39,7 +39,7 @@ unreachable-requires g c =
     let given = subst
     (λ (n : List ℕ). length_reply c.stat.result ≡ own_reply (plain (view_now c.args.volume.now) (call.Stat n)))
     c.as_bytes.ensures c.stat.ensures in
-    stat_given (view_now c.args.volume.now) c.is_lawful.ensures c.loop-count.count c.loop-count.last
+    stat_given (view_now c.args.volume.now) c.volume_is_lawful.ensures c.loop-count.count c.loop-count.last
     c.loop-count.text.items c.loop-count.invariant c.in-Ok-Some.name c.stat.result c.in_default.field-0
     (name_of (view_now c.args.volume.now) c.loop-count.last (Some c.in-Ok-Some.name) c.next_name.result
     (c.in-Ok-Some.is ∙ ap Ok c.in-Ok-Some.field-0-is) own) given c.in_default.is
@@ -54,7 +54,7 @@ returns-in-Err-add_line-clause-told g c =
     let given = subst
     (λ (n : List ℕ). length_reply c.stat.result ≡ own_reply (plain (view_now c.args.volume.now) (call.Stat n)))
     c.as_bytes.ensures c.stat.ensures in
-    let more = listed_more (view_now c.args.volume.now) c.is_lawful.ensures c.loop-count.count c.loop-count.last
+    let more = listed_more (view_now c.args.volume.now) c.volume_is_lawful.ensures c.loop-count.count c.loop-count.last
     c.loop-count.text.items c.loop-count.invariant c.in-Ok-Some.name c.in-Ok.size c.stat.result
     (name_of (view_now c.args.volume.now) c.loop-count.last (Some c.in-Ok-Some.name) c.next_name.result
     (c.in-Ok-Some.is ∙ ap Ok c.in-Ok-Some.field-0-is) own) given c.in-Ok.is in
@@ -73,7 +73,7 @@ loop-count-preserved g c =
     let given = subst
     (λ (n : List ℕ). length_reply c.stat.result ≡ own_reply (plain (view_now c.args.volume.now) (call.Stat n)))
     c.as_bytes.ensures c.stat.ensures in
-    let more = listed_more (view_now c.args.volume.now) c.is_lawful.ensures c.loop-count.count c.loop-count.last
+    let more = listed_more (view_now c.args.volume.now) c.volume_is_lawful.ensures c.loop-count.count c.loop-count.last
     c.loop-count.text.items c.loop-count.invariant c.in-Ok-Some.name c.in-Ok.size c.stat.result
     (name_of (view_now c.args.volume.now) c.loop-count.last (Some c.in-Ok-Some.name) c.next_name.result
     (c.in-Ok-Some.is ∙ ap Ok c.in-Ok-Some.field-0-is) own) given c.in-Ok.is in
@@ -85,6 +85,6 @@ loop-count-preserved g c =
 
 pub unreachable-requires-2 : goal.unreachable-requires-2
 unreachable-requires-2 g c =
-    let few = listed_few (view_now c.args.volume.now) c.is_lawful.ensures c.loop-count.count c.loop-count.last
+    let few = listed_few (view_now c.args.volume.now) c.volume_is_lawful.ensures c.loop-count.count c.loop-count.last
     c.loop-count.text.items c.loop-count.invariant in
-    omega (arith, few, c.is_lawful.ensures.few, c.loop-count-test.false)
+    omega (arith, few, c.volume_is_lawful.ensures.few, c.loop-count-test.false)
