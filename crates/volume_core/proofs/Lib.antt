@@ -9,3 +9,4 @@ pub mod Read
 pub mod Hashed
 pub mod Written
 pub mod Bounds
+pub mod Adding

@@ -14,6 +14,7 @@ use volume_files::{find_file, write_plain};
 impl<D: Disk> Volume<D> {
     ghost use Rattle.volume_core.specs.Volumes.{disk_of, view_now, stopped, IsKept, Endures};
     ghost use Rattle.volume_core.specs.Wants.{wants_of, IsWant};
+    ghost use Rattle.volume_core.specs.Bounds.{Adds};
     ghost use Rattle.volume_core.specs.Replies.{Replies, RepliesOrMemory, Leaves};
 
     /// Makes an empty file.
@@ -22,6 +23,7 @@ impl<D: Disk> Volume<D> {
         ensures reply { RepliesOrMemory (Create name.now) self.old self.new (done_reply result) }
         ensures left { Leaves (Create name.now) self.old self.new (done_reply result) }
         ensures endures { Endures self.old self.new }
+        ensures adds { Adds (Create name.now) self.old self.new }
         ensures stops { stopped self.new ≡ true → IsErrOf result Fault.Failed }
         ensures want { IsWant (Create name.now) (wants_of self.old (Create name.now)) }
         ensures failed { IsErrOf result Fault.Failed → Rose (disk_of self.old).faults (disk_of self.new).faults }
@@ -37,6 +39,7 @@ impl<D: Disk> Volume<D> {
             Leaves (Write name.now at bytes.now) self.old self.new (done_reply result) }
         ensures unchanged { OnErr result (view_now self.new ≡ view_now self.old) }
         ensures endures { Endures self.old self.new }
+        ensures adds { Adds (Write name.now at bytes.now) self.old self.new }
         ensures stops { stopped self.new ≡ true → IsErrOf result Fault.Failed }
         ensures want { IsWant (Write name.now at bytes.now) (wants_of self.old (Write name.now at bytes.now)) }
         ensures failed { IsErrOf result Fault.Failed → Rose (disk_of self.old).faults (disk_of self.new).faults }
@@ -51,6 +54,7 @@ impl<D: Disk> Volume<D> {
         ensures reply { Replies (SetLength name.now length) self.old self.new (done_reply result) }
         ensures left { Leaves (SetLength name.now length) self.old self.new (done_reply result) }
         ensures endures { Endures self.old self.new }
+        ensures adds { Adds (SetLength name.now length) self.old self.new }
         ensures stops { stopped self.new ≡ true → IsErrOf result Fault.Failed }
         ensures want { IsWant (SetLength name.now length) (wants_of self.old (SetLength name.now length)) }
         ensures failed { IsErrOf result Fault.Failed → Rose (disk_of self.old).faults (disk_of self.new).faults }
@@ -64,6 +68,7 @@ impl<D: Disk> Volume<D> {
         ensures reply { RepliesOrMemory (Rename from.now to.now) self.old self.new (done_reply result) }
         ensures left { Leaves (Rename from.now to.now) self.old self.new (done_reply result) }
         ensures endures { Endures self.old self.new }
+        ensures adds { Adds (Rename from.now to.now) self.old self.new }
         ensures stops { stopped self.new ≡ true → IsErrOf result Fault.Failed }
         ensures want { IsWant (Rename from.now to.now) (wants_of self.old (Rename from.now to.now)) }
         ensures failed { IsErrOf result Fault.Failed → Rose (disk_of self.old).faults (disk_of self.new).faults }
@@ -77,6 +82,7 @@ impl<D: Disk> Volume<D> {
         ensures reply { Replies (Delete name.now) self.old self.new (done_reply result) }
         ensures left { Leaves (Delete name.now) self.old self.new (done_reply result) }
         ensures endures { Endures self.old self.new }
+        ensures adds { Adds (Delete name.now) self.old self.new }
         ensures stops { stopped self.new ≡ true → IsErrOf result Fault.Failed }
         ensures want { IsWant (Delete name.now) (wants_of self.old (Delete name.now)) }
         ensures failed { IsErrOf result Fault.Failed → Rose (disk_of self.old).faults (disk_of self.new).faults }

@@ -13,6 +13,7 @@ use vdisk::Disk;
 impl<D: Disk> Volume<D> {
     ghost use Rattle.volume_core.specs.Volumes.{device_of, disk_of, view_now, due_of, stopped, IsKept, Endures};
     ghost use Rattle.volume_core.specs.Wants.{wants_of, IsWant};
+    ghost use Rattle.volume_core.specs.Bounds.{Adds};
     ghost use Rattle.volume_core.specs.Replies.{Replies, Leaves};
 
     /// Makes all calls so far durable. Where nothing is due, as after a flush that answered Ok, the disk is
@@ -25,6 +26,7 @@ impl<D: Disk> Volume<D> {
         ensures nothing_due { OnOk result (due_of self.new ≡ 0) }
         ensures idle { due_of self.old ≡ 0 → device_of self.new ≡ device_of self.old }
         ensures endures { Endures self.old self.new }
+        ensures adds { Adds Flush self.old self.new }
         ensures stops { stopped self.new ≡ true → IsErrOf result Fault.Failed }
         ensures want { IsWant Flush (wants_of self.old Flush) }
         ensures failed { IsErrOf result Fault.Failed → Rose (disk_of self.old).faults (disk_of self.new).faults }

@@ -23,6 +23,7 @@ use volume_tables::{MountFault, Tables};
 
 impl<D: Disk> Volume<D> {
     ghost use Rattle.volume_core.specs.Volumes.{device_of, disk_of, clusters_in, area_of, view_now, stopped, IsKept};
+    ghost use Rattle.volume_core.specs.Bounds.{HasSpent};
     ghost use Rattle.volume_core.specs.Wants.{wants_of};
 
     /// Makes an empty volume of so many clusters, from 4,096 to 1,048,576. A shorter disk grows; a longer one is
@@ -32,6 +33,7 @@ impl<D: Disk> Volume<D> {
         requires most { clusters ≤ 1048576 }
         ensures kept { IsTrue (D.state disk).tells → IfOk result (λ v. IsKept v []) }
         ensures now { IfOk result (λ v. view_now v ≡ []) }
+        ensures fresh { IfOk result (λ v. HasSpent v 0 0) }
         ensures clusters { IfOk result (λ v. clusters_in v ≡ clusters) }
         ensures runs { IfOk result (λ v. stopped v ≡ false) }
         ensures moments { IsTrue (D.state disk).tells →

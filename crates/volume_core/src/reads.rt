@@ -36,6 +36,7 @@ fn shortened<'a>(after: Option<&'a [u8]>) -> Option<&'a [u8]>
 
 impl<D: Disk> Volume<D> {
     ghost use Rattle.volume_core.specs.Volumes.{disk_of, view_now, stopped, IsKept, Endures};
+    ghost use Rattle.volume_core.specs.Bounds.{Adds};
     ghost use Rattle.volume_core.specs.Replies.{Replies, digest_reply, length_reply, name_reply};
 
     /// Fills the buffer from a place of a file. After a refusal `out` may hold anything. It takes no memory.
@@ -47,6 +48,7 @@ impl<D: Disk> Volume<D> {
             (done_reply result)) }
         ensures left { view_now self.new ≡ view_now self.old }
         ensures endures { Endures self.old self.new }
+        ensures adds { Adds (Read name.now at (length out.old)) self.old self.new }
         ensures runs { stopped self.new ≡ false }
         ensures failed { IsErrOf result Fault.Failed → Rose (disk_of self.old).faults (disk_of self.new).faults }
     {
@@ -65,6 +67,7 @@ impl<D: Disk> Volume<D> {
         ensures refused { OnErr result (Replies (Digest name.now) self.old self.new (digest_reply result)) }
         ensures left { view_now self.new ≡ view_now self.old }
         ensures endures { Endures self.old self.new }
+        ensures adds { Adds (Digest name.now) self.old self.new }
         ensures runs { stopped self.new ≡ false }
         ensures failed { IsErrOf result Fault.Failed → Rose (disk_of self.old).faults (disk_of self.new).faults }
     {

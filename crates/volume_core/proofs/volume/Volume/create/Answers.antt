@@ -1,9 +1,11 @@
+use Rattle.std.proofs.Common.{refl, arith}
 use Rattle.plain_volume.specs.declared.call.Call.TheVariants.{Create}
 use Rattle.volume_tables.specs.Tables.{disk_of, view_now}
 use Rattle.volume_files.specs.Needs.{create_needs}
 use Rattle.volume_files.specs.Wants.{wanting}
 use Rattle.volume_core.proofs.Causes.{failed_rose_too}
 use Rattle.volume_core.proofs.Wanting.{create_may, create_not_failed}
+use Rattle.volume_core.proofs.Adding.{changes_add}
 use Rattle.volume_core.proofs.volume.Volume.create.Goals as goal
 
 pub returns-clause-want : goal.returns-clause-want
@@ -15,3 +17,8 @@ returns-clause-failed g c =
     failed_rose_too (view_now t) (Create c.args.name.now) (wanting t (create_needs c.args.name.now))
     (create_not_failed t c.args.name.now) (disk_of t).faults (disk_of c.create.new.tables).faults c.create.result
     c.create.ensures.reply
+
+pub returns-clause-adds : goal.returns-clause-adds
+returns-clause-adds g c =
+    let s = c.create.ensures in
+    changes_add _ _ (Create c.args.name.now) 1 (omega arith) refl s.spends s.endures

@@ -1,9 +1,11 @@
+use Rattle.std.proofs.Common.{refl, arith}
 use Rattle.plain_volume.specs.declared.call.Call.TheVariants.{Delete}
 use Rattle.volume_tables.specs.Tables.{disk_of, view_now}
 use Rattle.volume_files.specs.Needs.{delete_needs}
 use Rattle.volume_files.specs.Wants.{wanting}
 use Rattle.volume_core.proofs.Causes.{failed_rose}
 use Rattle.volume_core.proofs.Wanting.{delete_may, delete_not_failed}
+use Rattle.volume_core.proofs.Adding.{changes_add}
 use Rattle.volume_core.proofs.volume.Volume.delete.Goals as goal
 
 pub returns-clause-want : goal.returns-clause-want
@@ -15,3 +17,8 @@ returns-clause-failed g c =
     failed_rose (view_now t) (Delete c.args.name.now) (wanting t (delete_needs c.args.name.now))
     (delete_not_failed t c.args.name.now) (disk_of t).faults (disk_of c.delete.new.tables).faults c.delete.result
     c.delete.ensures.reply
+
+pub returns-clause-adds : goal.returns-clause-adds
+returns-clause-adds g c =
+    let s = c.delete.ensures in
+    changes_add _ _ (Delete c.args.name.now) 0 (omega arith) refl s.spends s.endures

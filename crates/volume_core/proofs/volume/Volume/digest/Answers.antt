@@ -1,10 +1,11 @@
-use Rattle.std.proofs.Common.{rules, ◌≡◌, Err}
+use Rattle.std.proofs.Common.{rules, ◌≡◌, Err, refl}
 use Rattle.plain_volume.specs.Step.{digest}
 use Rattle.plain_volume.specs.declared.call.Call.TheVariants.{Digest}
 use Rattle.volume_tables.specs.Tables.{disk_of, view_now}
 use Rattle.volume_core.proofs.Answered.{digest_replied}
 use Rattle.volume_core.proofs.Causes.{refused_not_failed}
 use Rattle.volume_core.proofs.Read.{read_endures}
+use Rattle.volume_core.proofs.Adding.{nothing_adds, reads_add}
 use Rattle.volume_core.proofs.volume.Volume.digest.Goals as goal
 
 pub returns-in_err-file-clause-failed : goal.returns-in_err-file-clause-failed
@@ -26,3 +27,9 @@ pub returns-clause-endures : goal.returns-clause-endures
 returns-clause-endures g c =
     read_endures c.args.self.now.tables c.hash_file.new.tables c.hash_file.ensures.reads
     g.met.D.Disk.same_self g.met.D.Disk.same_next c.requires.running
+
+pub returns-in_err-file-clause-adds : goal.returns-in_err-file-clause-adds
+returns-in_err-file-clause-adds g c = nothing_adds _ _ (Digest c.args.name.now) refl
+
+pub returns-clause-adds : goal.returns-clause-adds
+returns-clause-adds g c = reads_add _ _ (Digest c.args.name.now) c.hash_file.ensures.reads

@@ -1,4 +1,4 @@
-use Rattle.std.proofs.Common.{◌≡◌, ◌+◌, List, inl, inr, ap, sym, subst}
+use Rattle.std.proofs.Common.{◌≡◌, ◌+◌, List, inl, inr, ap, refl, sym, subst}
 use Rattle.std.proofs.lemmas.Result.{on_ok_weaker}
 use Rattle.cluster_space.specs.declared.state.State.{State}
 use Rattle.cluster_space.specs.States.{free_in, deferred_in}
@@ -8,6 +8,8 @@ use Rattle.volume_tables.proofs.Freed.{both_ok}
 use Rattle.volume_tables.proofs.Roomed.{unless_stopped, released_counts}
 use Rattle.volume_files.proofs.Endured.{endures_room}
 use Rattle.volume_core.proofs.Flushed.{kept_now, sound_still}
+use Rattle.plain_volume.specs.declared.call.Call.TheVariants.{Flush}
+use Rattle.volume_core.proofs.Adding.{commit_adds}
 use Rattle.volume_core.proofs.volume.Volume.flush.Goals as goal
 
 pub invariant_of-self : goal.invariant_of-self
@@ -45,3 +47,8 @@ returns-clause-endures g c =
       subst (λ (x : g.row.D.Denot). Kept (area_of t) (g.D.Disk.state x) w) (sym (s.unspent worn).0) kept,
     )))
     s.later s.same s.epoch s.tires
+
+pub returns-clause-adds : goal.returns-clause-adds
+returns-clause-adds g c =
+    let s = c.commit.ensures in
+    commit_adds _ _ Flush refl s.now s.epoch s.tires

@@ -1,4 +1,4 @@
-use Rattle.std.proofs.Common.{rules, ◌≡◌, ◌+◌, ◌≤◌, length, Err, arith}
+use Rattle.std.proofs.Common.{rules, ◌≡◌, ◌+◌, ◌≤◌, length, Err, refl, arith}
 use Rattle.plain_volume.specs.Step.{read}
 use Rattle.plain_volume.specs.declared.call.Call.TheVariants.{Read}
 use Rattle.volume_tables.specs.Tables.{disk_of, view_now}
@@ -6,6 +6,7 @@ use Rattle.volume_files.proofs.Endured.{endures_start}
 use Rattle.volume_core.proofs.Answered.{read_replied}
 use Rattle.volume_core.proofs.Causes.{refused_not_failed}
 use Rattle.volume_core.proofs.Read.{read_endures}
+use Rattle.volume_core.proofs.Adding.{nothing_adds, reads_add}
 use Rattle.volume_core.proofs.volume.Volume.read_into.Goals as goal
 
 pub returns-in_err-file-clause-failed : goal.returns-in_err-file-clause-failed
@@ -31,3 +32,13 @@ pub returns-clause-endures : goal.returns-clause-endures
 returns-clause-endures g c =
     read_endures c.args.self.now.tables c.read_plain.new.tables c.read_plain.ensures.reads
     g.met.D.Disk.same_self g.met.D.Disk.same_next c.requires.running
+
+pub returns-in_err-file-clause-adds : goal.returns-in_err-file-clause-adds
+returns-in_err-file-clause-adds g c = nothing_adds _ _ (Read c.args.name.now c.args.at (length c.args.out.now)) refl
+
+pub returns-then-at-record-clause-adds : goal.returns-then-at-record-clause-adds
+returns-then-at-record-clause-adds g c = nothing_adds _ _ (Read c.args.name.now c.args.at (length c.args.out.now)) refl
+
+pub returns-clause-adds : goal.returns-clause-adds
+returns-clause-adds g c =
+    reads_add _ _ (Read c.args.name.now c.args.at (length c.args.out.now)) c.read_plain.ensures.reads

@@ -1,8 +1,10 @@
+use Rattle.std.proofs.Common.{refl, arith}
 use Rattle.plain_volume.specs.declared.call.Call.TheVariants.{SetLength}
 use Rattle.volume_tables.specs.Tables.{disk_of, view_now}
 use Rattle.volume_files.specs.Lengths.{length_wants}
 use Rattle.volume_core.proofs.Causes.{failed_rose}
 use Rattle.volume_core.proofs.Wanting.{length_may, length_not_failed}
+use Rattle.volume_core.proofs.Adding.{changes_add}
 use Rattle.volume_core.proofs.volume.Volume.set_length.Goals as goal
 
 pub returns-clause-want : goal.returns-clause-want
@@ -14,3 +16,8 @@ returns-clause-failed g c =
     failed_rose (view_now t) (SetLength c.args.name.now c.args.length) (length_wants t c.args.name.now c.args.length)
     (length_not_failed t c.args.name.now c.args.length) (disk_of t).faults (disk_of c.set_length.new.tables).faults
     c.set_length.result c.set_length.ensures.reply
+
+pub returns-clause-adds : goal.returns-clause-adds
+returns-clause-adds g c =
+    let s = c.set_length.ensures in
+    changes_add _ _ (SetLength c.args.name.now c.args.length) 0 (omega arith) refl s.spends s.endures

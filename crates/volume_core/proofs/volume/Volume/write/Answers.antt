@@ -1,4 +1,4 @@
-use Rattle.std.proofs.Common.{rules, ◌≡◌, Result, Err, sym, subst}
+use Rattle.std.proofs.Common.{rules, ◌≡◌, Result, Err, refl, sym, subst, arith}
 use Rattle.plain_volume.specs.Step.{plain, write}
 use Rattle.plain_volume.specs.Replies.{done_reply}
 use Rattle.plain_volume.specs.declared.call.Call.TheVariants.{Write}
@@ -11,6 +11,7 @@ use Rattle.volume_core.specs.Wants.{file_of}
 use Rattle.volume_core.proofs.Causes.{refused_not_failed}
 use Rattle.volume_core.proofs.Wanting.{write_may}
 use Rattle.volume_core.proofs.Written.{unfound_replied, write_replied, write_left}
+use Rattle.volume_core.proofs.Adding.{nothing_adds, changes_add}
 use Rattle.volume_core.proofs.volume.Volume.write.Goals as goal
 
 pub returns-in_err-file-clause-failed : goal.returns-in_err-file-clause-failed
@@ -53,3 +54,11 @@ returns-clause-left g c w kept =
 
 pub returns-clause-want : goal.returns-clause-want
 returns-clause-want g c = write_may c.args.self.now.tables c.args.name.now c.args.at c.args.bytes.now
+
+pub returns-in_err-file-clause-adds : goal.returns-in_err-file-clause-adds
+returns-in_err-file-clause-adds g c = nothing_adds _ _ (Write c.args.name.now c.args.at c.args.bytes.now) refl
+
+pub returns-clause-adds : goal.returns-clause-adds
+returns-clause-adds g c =
+    let s = c.write_plain.ensures in
+    changes_add _ _ (Write c.args.name.now c.args.at c.args.bytes.now) 0 (omega arith) refl s.spends s.endures
