@@ -21,11 +21,12 @@ use Rattle.volume_files.specs.Wants.{is_late, reply_of, IsFailed, IsReplied, IsR
 use Rattle.cmdlet_line.specs.Lines.{Ask, Create, Write, Read, Fill, Length, Rename, Delete, Digest, Stat, Listing, Flush, Exit}
 use Rattle.ddpsh.specs.States.{State, reply_in}
 use Rattle.ddpsh.specs.Listing.{listing}
-use Rattle.ddpsh.specs.Crashes.{Survives}
+use Rattle.ddpsh.specs.Crashes.{Carries}
 use Rattle.ddpsh.specs.Script.{Item, Bad, Bare, Paid, Cut, Spoilt, with_payload, ends_well}
 use Rattle.ddpsh.specs.Answers.{Answer, Nothing, Accepted, Refused, Comes, Starts, Begun, OneCall, NoCall, Unmounts, OneBegun, said, said_fault, number, fault_text, text_of, is_accepted, is_exit}
 use Rattle.ddpsh.specs.Runs.{Made, acknowledges}
 use Rattle.ddpsh.specs.Saying.{IsSaid, plain_kind, exit_kind, kind_of}
+use Rattle.volume_core.specs.Bounds.{Adds}
 use Rattle.volume_core.specs.Volumes.{disk_of, device_of, view_now, stopped, IsKept, Endures}
 use Rattle.volume_core.specs.Wants.{wants_of, IsWant}
 use Rattle.ddpsh.specs.Served.{volume_state, IsServed, IsBroken, ComesTo, Attempts, StaysSame, IsSteady}
@@ -36,7 +37,7 @@ use Rattle.ddpsh.specs.declared.stops.SessionFault.{SessionFault}
 use Rattle.ddpsh.specs.declared.stops.SessionFault.TheVariants as stop
 use Rattle.volume_core.specs.declared.volume.Volume.{Volume as Engine}
 use Rattle.ddpsh.proofs.RunLaws.{made_none}
-use Rattle.ddpsh.proofs.CrashLaws.{survives_none, survives_idle, survives_call}
+use Rattle.ddpsh.proofs.CrashLaws.{carries_none, carries_idle, carries_call}
 
 begun_none : (ask : Ask) (payload : List ℕ) (v : State) → Begun ask payload v []
 begun_none (Create name) payload v = inl refl
@@ -159,6 +160,7 @@ module _ {D : Type 0} {d : Ghosts D} where
     pub want : IsWant call (wants_of old call)
     pub fails : IsTrue (may_want call fault.Failed)
     pub endures : Endures old new
+    pub adds : Adds call old new
 
   -- what a call did that looks at the volume alone, and wants no resource but memory
   pub record Told (call : Call) (v : Engine D d) (given : Reply) : Type 0 where
@@ -172,14 +174,14 @@ module _ {D : Type 0} {d : Ghosts D} where
     pub step : Step (view_now old) call given (after (view_now old) call given)
     pub replied : IsRepliedOrMemory (plain (view_now old) call) (wants_of old call) (disk_of old).faults (disk_of new).faults given
     pub left : view_now new ≡ after (view_now old) call given
-    pub survives : Survives old new ((call, given) ∷ [])
+    pub carries : Carries old new ((call, given) ∷ [])
 
   stepped_call : (call : Call) (old new : Engine D d) (given : Reply) → Called call old new given → Stepped call old new given
   stepped_call call old new given did = record {
     step = step_of did.law (view_now old) call (wants_of old call) given (disk_of old).faults (disk_of new).faults did.fails did.want did.replied;
     replied = did.replied;
     left = did.left;
-    survives = survives_call old new ((call, given) ∷ []) did.endures;
+    carries = carries_call call old new ((call, given) ∷ []) did.endures did.adds (omega arith);
   }
 
   told_reply : (call : Call) (v : Engine D d) (given : Reply) → Told call v given → IsRepliedOrMemory (plain (view_now v) call) (wants_of v call) (disk_of v).faults (disk_of v).faults given
@@ -192,7 +194,7 @@ module _ {D : Type 0} {d : Ghosts D} where
     step = own_step did.law (view_now v) call given did.own;
     replied = told_reply call v given did;
     left = did.left;
-    survives = survives_idle v ((call, given) ∷ []);
+    carries = carries_idle v ((call, given) ∷ []);
   }
 
   made_one : (call : Call) (old new : Engine D d) (given : Reply) → Stepped call old new given → Made (volume_state old) (volume_state new) ((call, given) ∷ [])
@@ -213,7 +215,7 @@ module _ {D : Type 0} {d : Ghosts D} where
         });
         legal = made_one call old new given did;
         count = refl;
-        survives = did.survives;
+        carries = did.carries;
         kept = durable says.0 says.1;
         text_is = says.2.text_is;
         kind_is = says.2.kind_is ∙ sym (fits.kind says.0);
@@ -226,7 +228,7 @@ module _ {D : Type 0} {d : Ghosts D} where
         (inr (given, refl, begun_given (plain (view_now old) call) (wants_of old call) given (disk_of old).faults (disk_of new).faults did.replied));
     legal = made_one call old new given did;
     count = refl;
-    survives = did.survives;
+    carries = did.carries;
   }
 
   pub comes_call : (item : Item) (call : Call) (old new : Engine D d) (given : Reply) (text : List ℕ) (r : Result Answered SessionFault) → Called call old new given → Fits item call
@@ -241,7 +243,7 @@ module _ {D : Type 0} {d : Ghosts D} where
   comes_told item call v given text (Err f) did fits undurable says = broke_call item call v v given (stepped_told call v given did) fits
 
   pub broke_none : (item : Item) (v : Engine D d) → IsBroken item v v 0
-  broke_none item v = record { calls = []; starts = starts_none item (volume_state v); legal = made_none (volume_state v); count = refl; survives = survives_none v }
+  broke_none item v = record { calls = []; starts = starts_none item (volume_state v); legal = made_none (volume_state v); count = refl; carries = carries_none v }
 
   -- a line that makes no call
   pub comes_none : (item : Item) (v : Engine D d) (says : State → Answer) (text : List ℕ) (r : Result Answered SessionFault)
@@ -254,7 +256,7 @@ module _ {D : Type 0} {d : Ghosts D} where
     comes = shape (volume_state v) [] (says (volume_state v)) (record { calls_are = refl; says_so = refl; leaves = refl });
     legal = made_none (volume_state v);
     count = refl;
-    survives = survives_none v;
+    carries = carries_none v;
     kept = λ h. absurd (false≢true (sym undurable ∙ h));
     text_is = said.text_is;
     kind_is = said.kind_is ∙ sym (plain_one (says (volume_state v)));
@@ -315,6 +317,7 @@ module _ {D : Type 0} {d : Ghosts D} where
     pub left : view_now new ≡ after (view_now old) call.Flush (done_reply r)
     pub durable : OnOk r (IsKept new (view_now old))
     pub endures : Endures old new
+    pub adds : Adds call.Flush old new
 
   pub flush_view : (old new : Engine D d) (r : Result (Unit {0}) Fault) → Flushed old new r → view_now new ≡ view_now old
   flush_view old new r did = did.left ∙ flush_after (view_now old) r
@@ -338,7 +341,7 @@ module _ {D : Type 0} {d : Ghosts D} where
     comes = record { calls_are = refl; says = flush_says old new (Ok tt) (Accepted []) did refl; leaves = flush_view old new (Ok tt) did };
     legal = flush_made old new (Ok tt) did;
     count = refl;
-    survives = survives_call old new [] did.endures;
+    carries = carries_call call.Flush old new [] did.endures did.adds (omega arith);
     kept = λ h. flush_kept old new (Ok tt) (Accepted []) refl refl did;
     text_is = is;
     kind_is = refl;
@@ -353,7 +356,7 @@ module _ {D : Type 0} {d : Ghosts D} where
     comes = record { calls_are = refl; says = flush_says old new (Err f) said.0 did said.1; leaves = flush_view old new (Err f) did };
     legal = flush_made old new (Err f) did;
     count = refl;
-    survives = survives_call old new [] did.endures;
+    carries = carries_call call.Flush old new [] did.endures did.adds (omega arith);
     kept = λ h. absurd (false≢true (sym (refused_said f said.0 said.1) ∙ h));
     text_is = said.2.text_is;
     kind_is = said.2.kind_is ∙ sym (refused_kind said.0 (refused_said f said.0 said.1));
@@ -363,7 +366,7 @@ module _ {D : Type 0} {d : Ghosts D} where
     starts = refl;
     legal = flush_made old new (Err f) did;
     count = refl;
-    survives = survives_call old new [] did.endures;
+    carries = carries_call call.Flush old new [] did.endures did.adds (omega arith);
   }
 
 -- the bytes behind a place

@@ -1,9 +1,9 @@
--- What a crash leaves goes on from call to call.
+-- What a crash leaves, and what was spent, goes on from call to call.
 use Rattle.std.proofs.Common.{◌≡◌, ◌⊎◌, ◌≤◌, ◌<◌, ◌+◌, ℕ, zero, suc, Bool, true, false, List, [], ◌∷◌, ◌++◌, length, take, refl, sym, ◌∙◌, ap, subst, inl, inr, ⊎_elim, arith, length-append, Contains}
 use Rattle.std.proofs.lemmas.List.{take-append-le, take_all}
 use Rattle.std.proofs.lemmas.List.Elements.{Contains-push_cases}
 use Rattle.std.proofs.Math.Seq.{take-append-add}
-use Rattle.vdisk.specs.Disk.{DiskState, Adds}
+use Rattle.vdisk.specs.Disk.{DiskState}
 use Rattle.vdisk.specs.Steps.{Keeps, keeps_start, keeps_as}
 use Rattle.vdisk.specs.declared.disk.Disk.{Ghosts}
 use Rattle.plain_volume.specs.Volume.{Volume}
@@ -11,14 +11,17 @@ use Rattle.plain_volume.specs.Step.{replay}
 use Rattle.plain_volume.specs.declared.call.Call.{Call}
 use Rattle.plain_volume.specs.declared.call.Reply.{Reply}
 use Rattle.volume_inside.specs.Shows.{Shows, ShowsEither}
+use Rattle.volume_core.specs.Bounds.{touched_by, changed_by, Adds}
 use Rattle.volume_core.specs.Volumes.{disk_of, area_of, view_now, stopped, clusters_in, IsKept, Endures}
-use Rattle.ddpsh.specs.Crashes.{Mounts, MountsAfter, Survives, AreInOrder, LastsFrom}
+use Rattle.ddpsh.specs.Bounds.{touched_by_all}
+use Rattle.ddpsh.specs.Crashes.{Mounts, MountsAfter, Carries, AreInOrder, LastsFrom}
 use Rattle.ddpsh.specs.Sessions.{ack_now, acks_if}
 use Rattle.ddpsh.specs.Steps.{Keeping, acks_when}
 use Rattle.ddpsh.specs.declared.acks.Ack.{Ack}
 use Rattle.volume_core.specs.declared.volume.Volume.{Volume as Engine}
 use Rattle.ddpsh.specs.declared.session.Session.{Session}
 use Rattle.ddpsh.proofs.RunLaws.{replays}
+use Rattle.ddpsh.proofs.BoundLaws.{spent_more, changed_once}
 
 -- after a front of the calls so far
 after_front : (opening : Volume) (calls more : List (Call × Reply)) (least : ℕ) (image : List ℕ)
@@ -76,17 +79,21 @@ module _ {D : Type 0} {d : Ghosts D} where
   mounts_kept v w is image left = mounts_shown v w image (is.kept image left)
 
   -- no call was made, and the volume is as it was
-  pub survives_none : (v : Engine D d) → Survives v v []
-  survives_none v = record {
+  pub carries_none : (v : Engine D d) → Carries v v []
+  carries_none v = record {
     moments = λ w is. keeps_start (disk_of v) (λ c. Mounts w c ⊎ MountsAfter (view_now v) [] 0 c) (λ c left. inl (mounts_kept v w is c left));
     kept = λ w is runs. inl is;
+    clusters = refl;
+    spends = λ b i has runs. spent_more v b i (b + 0) (i + 1) has (omega arith) (omega arith);
   }
 
   -- the volume is as it was, whatever calls were made
-  pub survives_idle : (v : Engine D d) (calls : List (Call × Reply)) → Survives v v calls
-  survives_idle v calls = record {
+  pub carries_idle : (v : Engine D d) (calls : List (Call × Reply)) → Carries v v calls
+  carries_idle v calls = record {
     moments = λ w is. keeps_start (disk_of v) (λ c. Mounts w c ⊎ MountsAfter (view_now v) calls 0 c) (λ c left. inl (mounts_kept v w is c left));
     kept = λ w is runs. inl is;
+    clusters = refl;
+    spends = λ b i has runs. spent_more v b i (b + touched_by_all calls) (i + 1) has (omega arith) (omega arith);
   }
 
   either_mounts : (v : Engine D d) (calls : List (Call × Reply)) (w : Volume) (image : List ℕ) → ShowsEither (area_of v) w (view_now v) image
@@ -96,16 +103,21 @@ module _ {D : Type 0} {d : Ghosts D} where
     | inr now ↦ inr (after_count (view_now v) calls 0 0 image (omega arith) (omega arith) (mounts_shown v (view_now v) image now))
   ]
 
-  -- what a call keeps, it keeps as any front of a line's calls
-  pub survives_call : (old new : Engine D d) (calls : List (Call × Reply)) → Endures old new → Survives old new calls
-  survives_call old new calls endures = record {
+  -- what a call keeps, it keeps as any front of a line's calls; and it adds no more than these touch
+  pub carries_call : (call : Call) (old new : Engine D d) (calls : List (Call × Reply)) → Endures old new
+      → Adds call old new → touched_by call ≤ touched_by_all calls → Carries old new calls
+  carries_call call old new calls endures adds touches = record {
     moments = λ w is. keeps_as (disk_of old) (disk_of new) (ShowsEither (area_of old) w (view_now old)) (λ c. Mounts w c ⊎ MountsAfter (view_now old) calls 0 c)
         (λ c shows. either_mounts old calls w c shows) (endures.moments w is);
     kept = λ w is runs. ⊎_elim (λ was. inl was) (λ now. inr (0, omega arith, now)) (endures.kept w is runs);
+    clusters = endures.clusters;
+    spends = λ b i has runs.
+        spent_more new (b + touched_by call) (i + changed_by call) (b + touched_by_all calls) (i + 1)
+        (adds b i has runs) (omega (arith, touches)) (omega (arith, changed_once call));
   }
 
   -- What was so at a moment before a line is so after it, of the calls with the line's.
-  module _ (opening : Volume) (calls more : List (Call × Reply)) (old new : Engine D d) (is : view_now old ≡ replay opening calls) (survives : Survives old new more) where
+  module _ (opening : Volume) (calls more : List (Call × Reply)) (old new : Engine D d) (is : view_now old ≡ replay opening calls) (carries : Carries old new more) where
     since_more : (count least : ℕ) → count ≤ length calls → least ≤ count → IsKept old (replay opening (take count calls)) → (t : ℕ) → t ≤ (disk_of old).moment
         → ((c : List ℕ) → (disk_of old).left_since t c → MountsAfter opening calls least c)
         → (c : List ℕ) → (disk_of new).left_since t c → MountsAfter opening (calls ++ more) least c
@@ -113,20 +125,20 @@ module _ {D : Type 0} {d : Ghosts D} where
         ⊎_elim (λ was. after_front opening calls more least c (so c was))
         (λ now. ⊎_elim (λ mounts. after_front opening calls more least c (after_count opening calls count least c within enough mounts))
         (λ after. after_rest opening (view_now old) calls more least c is (omega (arith, within, enough)) after) now)
-        ((survives.moments (replay opening (take count calls)) kept).adds.since t c le left)
+        ((carries.moments (replay opening (take count calls)) kept).adds.since t c le left)
 
   module _ (opening : Volume) (first : DiskState) (old new : Session D d) (calls more : List (Call × Reply)) (acks : List Ack)
-      (is : view_now old.volume ≡ replay opening calls) (survives : Survives old.volume new.volume more) where
+      (is : view_now old.volume ≡ replay opening calls) (carries : Carries old.volume new.volume more) where
     pub lasts_more : LastsFrom opening first (disk_of old.volume) calls acks → Keeping opening old calls acks → LastsFrom opening first (disk_of new.volume) (calls ++ more) acks
     lasts_more lasts keeping = record {
       since = λ t le so c left.
-          since_more opening calls more old.volume new.volume is survives keeping.count 0 keeping.within (omega arith) keeping.kept t
+          since_more opening calls more old.volume new.volume is carries keeping.count 0 keeping.within (omega arith) keeping.kept t
           (omega (arith, le, order_by first.moment acks (disk_of old.volume).moment lasts.order)) (lasts.since t le so) c left;
       acknowledged = λ ack here c left.
-          since_more opening calls more old.volume new.volume is survives keeping.count ack.calls keeping.within (keeping.holds ack here) keeping.kept ack.moment
+          since_more opening calls more old.volume new.volume is carries keeping.count ack.calls keeping.within (keeping.holds ack here) keeping.kept ack.moment
           (ack_within first.moment acks (disk_of old.volume).moment ack lasts.order here) (lasts.acknowledged ack here) c left;
       order = order_later first.moment acks (disk_of old.volume).moment (disk_of new.volume).moment
-          ((survives.moments (replay opening (take keeping.count calls)) keeping.kept).adds.later) lasts.order;
+          ((carries.moments (replay opening (take keeping.count calls)) keeping.kept).adds.later) lasts.order;
     }
 
     pub keeping_more : stopped new.volume ≡ false → Keeping opening old calls acks → Keeping opening new (calls ++ more) acks
@@ -144,7 +156,7 @@ module _ {D : Type 0} {d : Ghosts D} where
               (ap (λ x. replay x (take now.0 more)) is ∙ (sym (replays opening calls (take now.0 more)) ∙ ap (replay opening) (sym (take-append-add calls more now.0)))) now.2;
           holds = λ ack here. omega (arith, keeping.holds ack here, keeping.within);
         })
-        (survives.kept (replay opening (take keeping.count calls)) keeping.kept runs)
+        (carries.kept (replay opening (take keeping.count calls)) keeping.kept runs)
 
   -- before the first call
   pub lasts_start : (v : Session D d) → LastsFrom (view_now v.volume) (disk_of v.volume) (disk_of v.volume) [] []

@@ -5,6 +5,7 @@ pub mod ItemLaws
 pub mod PutLaws
 pub mod CommandLaws
 pub mod RunLaws
+pub mod BoundLaws
 pub mod CrashLaws
 pub mod CallLaws
 pub mod ListLaws
@@ -12,3 +13,4 @@ pub mod LineOfLaws
 pub mod StageLaws
 pub mod OneOutput
 pub mod TopLaws
+pub mod CompleteLaws

@@ -17,7 +17,7 @@ use Rattle.ddpsh.specs.Runs.{Made, acknowledges}
 use Rattle.ddpsh.specs.Saying.{kind_of, exit_kind, plain_kind, is_ok, asks_flush, is_flushed, ended_by}
 use Rattle.ddpsh.specs.Told.{IsPut, IsPutInPart}
 use Rattle.volume_core.specs.Volumes.{disk_of, view_now, stopped, IsKept}
-use Rattle.ddpsh.specs.Crashes.{Survives}
+use Rattle.ddpsh.specs.Crashes.{Carries}
 use Rattle.ddpsh.specs.Served.{asked_as, volume_state, IsServed, IsBroken, ComesTo}
 use Rattle.ddpsh.specs.Sessions.{state_of, ack_now, acks_if, counted_on, let_go, acknowledge, is_last, LineEnds, EndEnds, Acks, HasCome, DoesLine, DoesEnd}
 use Rattle.ddpsh.specs.Ends.{over_end, stop_end}
@@ -34,7 +34,7 @@ use Rattle.ddpsh.specs.declared.stops.SessionFault.TheVariants as stop
 use Rattle.volume_core.specs.declared.volume.Volume.{Volume as Engine}
 use Rattle.ddpsh.specs.declared.session.Session.{Session}
 use Rattle.ddpsh.proofs.RunLaws.{made_none}
-use Rattle.ddpsh.proofs.CrashLaws.{survives_none, survives_call}
+use Rattle.ddpsh.proofs.CrashLaws.{carries_none, carries_call}
 use Rattle.ddpsh.proofs.CallLaws.{starts_none, Flushed, flush_view, flush_made, flush_kept, flush_says}
 
 -- a paid line is no `flush` and no `exit`
@@ -158,7 +158,7 @@ module _ {D : Type 0} {d : Ghosts D} where
     ends = stop_ends item (state_of old) (state_of new) come.3.calls held f not_sink come.3.starts;
     counted = come.1 ∙ ap (counted_on old.calls) come.3.count;
     few = omega (arith, come.2, come.3.count);
-    survives = come.3.survives;
+    carries = come.3.carries;
     acks = record { ack = none; kept = λ h. absurd (false≢true h) };
   }
 
@@ -173,8 +173,8 @@ module _ {D : Type 0} {d : Ghosts D} where
     came_counted : new.calls ≡ counted_on old.calls (length come.3.calls)
     came_counted = calls ∙ (come.1 ∙ ap (counted_on old.calls) come.3.count)
 
-    came_survives : Survives old.volume new.volume come.3.calls
-    came_survives = subst (λ (v : Engine D d). Survives old.volume v come.3.calls) (sym volume) come.3.survives
+    came_carries : Carries old.volume new.volume come.3.calls
+    came_carries = subst (λ (v : Engine D d). Carries old.volume v come.3.calls) (sym volume) come.3.carries
 
     came_kept : acknowledges item come.3.answer ≡ true → IsKept new.volume (view_now new.volume)
     came_kept h = subst (λ (v : Engine D d). IsKept v (view_now v)) (sym volume) (come.3.kept h)
@@ -188,7 +188,7 @@ module _ {D : Type 0} {d : Ghosts D} where
       ends = (come.3.answer, came_comes, come.3.kind_is, refl, subst (λ (t : List ℕ). IsPut before t held) come.3.text_is put);
       counted = came_counted;
       few = omega (arith, come.2, come.3.count);
-      survives = came_survives;
+      carries = came_carries;
       acks = record { ack = ack ∙ ap (acks_if (acknowledges item come.3.answer)) (sym (ack_same new mid volume calls)); kept = came_kept };
     }
 
@@ -202,7 +202,7 @@ module _ {D : Type 0} {d : Ghosts D} where
       ends = (come.3.answer, came_comes, refl, subst (λ (t : List ℕ). IsPutInPart before t held) come.3.text_is put);
       counted = came_counted;
       few = omega (arith, come.2, come.3.count);
-      survives = came_survives;
+      carries = came_carries;
       acks = record {
         ack = ack ∙ ap (acks_if (is_exit item && is_accepted come.3.answer)) (sym (ack_same new mid volume calls));
         kept = λ h. came_kept (and_both (is_exit item) (is_durable item) (is_accepted come.3.answer) durable h);
@@ -240,7 +240,7 @@ module _ {D : Type 0} {d : Ghosts D} where
     made = flush_made old.volume new.volume r did;
     ends = ends;
     counted = calls;
-    survives = survives_call old.volume new.volume [] did.endures;
+    carries = carries_call call.Flush old.volume new.volume [] did.endures did.adds (omega arith);
     acks = record { ack = ack; kept = kept };
   }
 
@@ -297,7 +297,7 @@ module _ {D : Type 0} {d : Ghosts D} where
     ends = does.ends;
     counted = does.counted;
     few = does.few;
-    survives = does.survives;
+    carries = does.carries;
     acks_are = are ∙ ap (λ x. acks ++ x) (ap ack_list does.acks.ack ∙ listed does.durable (ack_now new));
     kept = does.acks.kept;
   }
@@ -310,7 +310,7 @@ module _ {D : Type 0} {d : Ghosts D} where
     ends = (starts_none item (state_of v), refl, refl);
     counted = refl;
     few = omega arith;
-    survives = survives_none v.volume;
+    carries = carries_none v.volume;
     acks_are = are ∙ sym (append-nil acks);
     kept = λ h. absurd (false≢true h);
   }
@@ -322,7 +322,7 @@ module _ {D : Type 0} {d : Ghosts D} where
     made = does.made;
     ends = ends_over result (state_of old) does.durable does.ends;
     counted = does.counted;
-    survives = does.survives;
+    carries = does.carries;
     acks_are = are ∙ ap (λ x. acks ++ x) (ap ack_list does.acks.ack ∙ listed does.durable (ack_now new));
     kept = does.acks.kept;
   }
@@ -333,7 +333,7 @@ module _ {D : Type 0} {d : Ghosts D} where
     made = made_none (state_of v);
     ends = ends;
     counted = refl;
-    survives = survives_none v.volume;
+    carries = carries_none v.volume;
     acks_are = are ∙ sym (append-nil acks);
     kept = λ h. absurd (false≢true h);
   }

@@ -32,7 +32,7 @@ use Rattle.ddpsh.specs.declared.answers.Answered.{Answered}
 use Rattle.ddpsh.specs.declared.stops.SessionFault.{SessionFault}
 use Rattle.ddpsh.specs.declared.stops.SessionFault.TheVariants as stop
 use Rattle.volume_core.specs.declared.volume.Volume.{Volume as Engine}
-use Rattle.ddpsh.proofs.CrashLaws.{survives_idle}
+use Rattle.ddpsh.proofs.CrashLaws.{carries_idle}
 use Rattle.ddpsh.proofs.CallLaws.{stat_after}
 
 -- ---- calls that look
@@ -296,7 +296,7 @@ module _ {D : Type 0} {d : Ghosts D} (v : Engine D d) (count : ℕ) (last : Opti
     };
     legal = record { legal = look_legal (view_now v) so.done so.look; now = look_replay (view_now v) so.done so.look };
     count = is ∙ sym so.made;
-    survives = survives_idle v so.done;
+    carries = carries_idle v so.done;
   }
 
   -- memory was wanting for a name
@@ -319,7 +319,7 @@ module _ {D : Type 0} {d : Ghosts D} (v : Engine D d) (count : ℕ) (last : Opti
           now = look_replay (view_now v) (so.done ++ wanted) look;
         };
         count = omega (arith, is, so.made, length-append so.done wanted);
-        survives = survives_idle v (so.done ++ wanted);
+        carries = carries_idle v (so.done ++ wanted);
       }
 
   all_listed : next_name last (view_now v) ≡ None → view_now v ≡ so.front
@@ -351,7 +351,7 @@ module _ {D : Type 0} {d : Ghosts D} (v : Engine D d) (count : ℕ) (last : Opti
       now = look_replay (view_now v) (listing None (view_now v)) (all_look none);
     };
     count = omega (arith, is, so.made, ap length (all_called none), length-append so.done ((call.Next last, reply.Name None) ∷ []));
-    survives = survives_idle v (listing None (view_now v));
+    carries = carries_idle v (listing None (view_now v));
     kept = λ h. absurd (false≢true h);
     text_is = said.text_is ∙ ap (λ x. text_of (Accepted x)) (all_said none);
     kind_is = said.kind_is;
@@ -371,5 +371,5 @@ module _ {D : Type 0} {d : Ghosts D} (v : Engine D d) (count : ℕ) (last : Opti
       now = look_replay (view_now v) (listing None (view_now v)) (all_look none);
     };
     count = omega (arith, is, so.made, ap length (all_called none), length-append so.done ((call.Next last, reply.Name None) ∷ []));
-    survives = survives_idle v (listing None (view_now v));
+    carries = carries_idle v (listing None (view_now v));
   }

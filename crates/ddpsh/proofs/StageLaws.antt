@@ -18,9 +18,10 @@ use Rattle.ddpsh.specs.Input.{ahead, taken, IsLeft}
 use Rattle.ddpsh.specs.Reading.{IsItem, is_some_byte}
 use Rattle.ddpsh.specs.Told.{IsPut}
 use Rattle.volume_core.specs.Volumes.{disk_of, view_now, stopped, IsKept}
-use Rattle.ddpsh.specs.Crashes.{LastsFrom, Survives, Mounts, MountsAfter}
+use Rattle.ddpsh.specs.Bounds.{IsFresh, WantsAreSpent}
+use Rattle.ddpsh.specs.Crashes.{LastsFrom, Carries, Mounts, MountsAfter}
 use Rattle.ddpsh.specs.Sessions.{state_of, ack_now, counted_on, is_last, LineEnds}
-use Rattle.ddpsh.specs.Steps.{acks_when, EndsOver, DoesStep, DoesEndStep, Keeping, Stage, SessionRun}
+use Rattle.ddpsh.specs.Steps.{acks_when, EndsOver, DoesStep, DoesEndStep, Spending, Keeping, Stage, SessionRun}
 use Rattle.ddpsh.specs.declared.acks.Ack.{Ack}
 use Rattle.ddpsh.specs.declared.input.Input.{Input}
 use Rattle.ddpsh.specs.declared.input.ScriptFault.{ScriptFault}
@@ -33,6 +34,7 @@ use Rattle.ddpsh.specs.declared.stops.SessionFault.{SessionFault}
 use Rattle.ddpsh.specs.declared.stops.SessionFault.TheVariants as stop
 use Rattle.ddpsh.specs.declared.session.Session.{Session}
 use Rattle.ddpsh.proofs.RunLaws.{served_start, made_none, made_then, one_more, calls_more, output_more, refused_more, counts_more, acks_more, open_more}
+use Rattle.ddpsh.proofs.BoundLaws.{spending_start, spending_more}
 use Rattle.ddpsh.proofs.CrashLaws.{lasts_start, lasts_more, keeping_more, lasts_acked, keeping_acked}
 use Rattle.ddpsh.proofs.CallLaws.{starts_none}
 use Rattle.ddpsh.proofs.PutLaws.{put_none, put_then}
@@ -103,7 +105,7 @@ left_start input source s none came told = record { rest = s; told = told; whole
 module _ {D : Type 0} {d : Ghosts D} where
   -- what a line, or the end of a script, adds to what is told of crashes
   module _ (first old new : Session D d) (calls more : List (Call × Reply)) (acks later : List Ack) (durable : Bool)
-      (so : Made (state_of first) (state_of old) calls) (made : Made (state_of old) (state_of new) more) (survives : Survives old.volume new.volume more)
+      (so : Made (state_of first) (state_of old) calls) (made : Made (state_of old) (state_of new) more) (carries : Carries old.volume new.volume more)
       (count : new.calls ≡ length (calls ++ more)) (kept : durable ≡ true → IsKept new.volume (view_now new.volume)) (are : later ≡ acks ++ acks_when durable (ack_now new)) where
     now_is : view_now new.volume ≡ replay (view_now first.volume) (calls ++ more)
     now_is = (made_then (state_of first) (state_of old) (state_of new) calls more so made).now
@@ -122,16 +124,16 @@ module _ {D : Type 0} {d : Ghosts D} where
         → LastsFrom (view_now first.volume) (disk_of first.volume) (disk_of new.volume) (calls ++ more) later
     step_lasts lasts keeping =
         subst (λ (x : List Ack). LastsFrom (view_now first.volume) (disk_of first.volume) (disk_of new.volume) (calls ++ more) x) (sym are)
-        (lasts_when durable kept (lasts_more (view_now first.volume) (disk_of first.volume) old new calls more acks so.now survives lasts keeping))
+        (lasts_when durable kept (lasts_more (view_now first.volume) (disk_of first.volume) old new calls more acks so.now carries lasts keeping))
 
     pub step_keeping : stopped new.volume ≡ false → Keeping (view_now first.volume) old calls acks → Keeping (view_now first.volume) new (calls ++ more) later
     step_keeping runs keeping =
         subst (λ (x : List Ack). Keeping (view_now first.volume) new (calls ++ more) x) (sym are)
-        (keeping_when durable kept (keeping_more (view_now first.volume) (disk_of first.volume) old new calls more acks so.now survives runs keeping))
+        (keeping_when durable kept (keeping_more (view_now first.volume) (disk_of first.volume) old new calls more acks so.now carries runs keeping))
 
   pub stage_start : (v : Session D d) (s : List ℕ) (input : Input) (source before : Option (List ℕ)) → ahead input ≡ [] → input.came ≡ 0 → source ≡ Some s → v.calls ≡ 0
-      → IsKept v.volume (view_now v.volume) → Stage v v s input source before before false 0 []
-  stage_start v s input source before none came told count kept = record {
+      → IsKept v.volume (view_now v.volume) → WantsAreSpent v.volume → Stage v v s input source before before false 0 []
+  stage_start v s input source before none came told count kept law = record {
     entries = [];
     rest = s;
     so = record { served = served_start (state_of v) s; output = put_none before; refusals = refl; counts = refl };
@@ -140,8 +142,10 @@ module _ {D : Type 0} {d : Ghosts D} where
     acks_are = refl;
     counted = count;
     few = omega arith;
+    short = omega arith;
     lasts = lasts_start v;
     keeping = record { count = 0; within = omega arith; kept = kept; holds = λ ack here. absurd (omega (arith, here.1)) };
+    spending = λ n fresh. spending_start n v law fresh;
   }
 
   module _ (first now w : Session D d) (s : List ℕ) (input later : Input) (source then before held after : Option (List ℕ)) (refused : Bool) (lines : ℕ) (acks more : List Ack)
@@ -179,28 +183,38 @@ module _ {D : Type 0} {d : Ghosts D} where
       goes_so : (b : Bool) → is_last a ≡ b → lets_go (entry_of (first_item so.rest) calls answer (state_of w)) ≡ b
       goes_so b h = sym (kind_goes (is_exit (first_item so.rest)) answer) ∙ (sym (ap is_last kind) ∙ h)
 
-    lasts_so : (calls : List (Call × Reply)) (durable : Bool) → Made (state_of now) (state_of w) calls → Survives now.volume w.volume calls → w.calls ≡ length (calls_of so.entries) + length calls
+    lasts_so : (calls : List (Call × Reply)) (durable : Bool) → Made (state_of now) (state_of w) calls → Carries now.volume w.volume calls → w.calls ≡ length (calls_of so.entries) + length calls
         → (durable ≡ true → IsKept w.volume (view_now w.volume)) → more ≡ acks ++ acks_when durable (ack_now w)
         → LastsFrom (view_now first.volume) (disk_of first.volume) (disk_of w.volume) (calls_of so.entries ++ calls) more
-    lasts_so calls durable made survives count kept are =
-        step_lasts first now w (calls_of so.entries) calls acks more durable so.so.served.made made survives (count_joined calls count) kept are so.lasts so.keeping
+    lasts_so calls durable made carries count kept are =
+        step_lasts first now w (calls_of so.entries) calls acks more durable so.so.served.made made carries (count_joined calls count) kept are so.lasts so.keeping
 
-    keeping_so : (calls : List (Call × Reply)) (durable : Bool) → Made (state_of now) (state_of w) calls → Survives now.volume w.volume calls → w.calls ≡ length (calls_of so.entries) + length calls
+    keeping_so : (calls : List (Call × Reply)) (durable : Bool) → Made (state_of now) (state_of w) calls → Carries now.volume w.volume calls → w.calls ≡ length (calls_of so.entries) + length calls
         → (durable ≡ true → IsKept w.volume (view_now w.volume)) → more ≡ acks ++ acks_when durable (ack_now w) → stopped w.volume ≡ false
         → Keeping (view_now first.volume) w (calls_of so.entries ++ calls) more
-    keeping_so calls durable made survives count kept are runs =
-        step_keeping first now w (calls_of so.entries) calls acks more durable so.so.served.made made survives (count_joined calls count) kept are runs so.keeping
+    keeping_so calls durable made carries count kept are runs =
+        step_keeping first now w (calls_of so.entries) calls acks more durable so.so.served.made made carries (count_joined calls count) kept are runs so.keeping
 
     item_ends : (r : Result Answered SessionFault) (calls : List (Call × Reply)) (durable : Bool) → LineEnds r item (state_of now) (state_of w) calls durable held after
         → LineEnds r (first_item so.rest) (state_of now) (state_of w) calls durable held after
     item_ends r calls durable ends = subst (λ (i : Item). LineEnds r i (state_of now) (state_of w) calls durable held after) is ends
 
+    -- one more line over a fresh volume
+    spending_so : (n : ℕ) (e : Entry) → e.after ≡ state_of w → Carries now.volume w.volume e.calls
+        → stopped w.volume ≡ false → WantsAreSpent w.volume → IsFresh n first.volume
+        → Spending n first w (so.entries ++ e ∷ [])
+    spending_so n e left carries runs law fresh =
+        spending_more n first now w so.entries e left carries runs law (omega (arith, so.short, few))
+        (so.spending n fresh)
+
     pub stage_more : (a : Answered) → IsItem so.rest true line payload later then (length s) → taken input < taken later → is_last a ≡ false → stopped w.volume ≡ false
-        → DoesStep item now w held after (Ok a) acks more → Stage first w s later then before after (refused || kind_refused a) (lines + kind_counted a) more
-    stage_more a read grows going runs step =
+        → WantsAreSpent w.volume → DoesStep item now w held after (Ok a) acks more
+        → Stage first w s later then before after (refused || kind_refused a) (lines + kind_counted a) more
+    stage_more a read grows going runs law step =
         let ends = item_ends (Ok a) step.calls step.durable step.ends in
         let count : w.calls ≡ length (calls_of so.entries) + length step.calls = count_more step.calls step.counted step.few in
-        let es : List Entry = so.entries ++ entry_of (first_item so.rest) step.calls ends.0 (state_of w) ∷ [] in
+        let e : Entry = entry_of (first_item so.rest) step.calls ends.0 (state_of w) in
+        let es : List Entry = so.entries ++ e ∷ [] in
         let joined : calls_of es ≡ calls_of so.entries ++ step.calls =
         calls_so step.calls step.durable a ends.0 ends.1 ends.2 ends.3 ends.4 step.made count step.acks_are read in
         record {
@@ -213,15 +227,18 @@ module _ {D : Type 0} {d : Ghosts D} where
           acks_are = acks_so step.calls step.durable a ends.0 ends.1 ends.2 ends.3 ends.4 step.made count step.acks_are read;
           counted = count_joined step.calls count ∙ ap length (sym joined);
           few = omega (arith, ap length joined, length-append (calls_of so.entries) step.calls, so.few, step.few, grows);
+          short = omega (arith, so.short, grows, length-append so.entries (e ∷ []));
           lasts = subst (λ (c : List (Call × Reply)). LastsFrom (view_now first.volume) (disk_of first.volume) (disk_of w.volume) c more) (sym joined)
-              (lasts_so step.calls step.durable step.made step.survives count step.kept step.acks_are);
+              (lasts_so step.calls step.durable step.made step.carries count step.kept step.acks_are);
           keeping = subst (λ (c : List (Call × Reply)). Keeping (view_now first.volume) w c more) (sym joined)
-              (keeping_so step.calls step.durable step.made step.survives count step.kept step.acks_are runs);
+              (keeping_so step.calls step.durable step.made step.carries count step.kept step.acks_are runs);
+          spending = λ n fresh. spending_so n e refl step.carries runs law fresh;
         }
 
-    pub stage_exit : (a : Answered) → a ≡ answered.Exit → IsItem so.rest true line payload later then (length s) → DoesStep item now w held after (Ok a) acks more
+    pub stage_exit : (a : Answered) → a ≡ answered.Exit → IsItem so.rest true line payload later then (length s)
+        → stopped w.volume ≡ false → WantsAreSpent w.volume → DoesStep item now w held after (Ok a) acks more
         → SessionRun first w s before after (record { end = ends.Exit; refused = refused || kind_refused a; lines = lines + kind_counted a }) more
-    stage_exit a exits read step =
+    stage_exit a exits read runs law step =
         let ends = item_ends (Ok a) step.calls step.durable step.ends in
         let count : w.calls ≡ length (calls_of so.entries) + length step.calls = count_more step.calls step.counted step.few in
         let e : Entry = entry_of (first_item so.rest) step.calls ends.0 (state_of w) in
@@ -249,7 +266,8 @@ module _ {D : Type 0} {d : Ghosts D} where
             calls_are = sym joined ∙ sym (append-nil (calls_of es));
             acks_are = acks_so step.calls step.durable a ends.0 ends.1 ends.2 ends.3 ends.4 step.made count step.acks_are read ∙ sym (append-nil (acknowledged 0 es));
           };
-          lasts = lasts_so step.calls step.durable step.made step.survives count step.kept step.acks_are;
+          lasts = lasts_so step.calls step.durable step.made step.carries count step.kept step.acks_are;
+          bounded = λ n fresh. (spending_so n e refl step.carries runs law fresh).bounded;
         }
 
     stopped_ends : (f : SessionFault) (calls : List (Call × Reply)) (durable : Bool) → LineEnds (Err f) (first_item so.rest) (state_of now) (state_of w) calls durable held after
@@ -288,7 +306,8 @@ module _ {D : Type 0} {d : Ghosts D} where
             calls_are = refl;
             acks_are = ap (map (λ (x : Ack). x.calls)) step.acks_are ∙ (acks_map acks step.durable (ack_now w) ∙ ap (λ x. x ++ one_if step.durable w.calls) so.acks_are);
           };
-          lasts = lasts_so step.calls step.durable step.made step.survives count step.kept step.acks_are;
+          lasts = lasts_so step.calls step.durable step.made step.carries count step.kept step.acks_are;
+          bounded = λ n fresh. (so.spending n fresh).bounded;
         }
 
   module _ (first now : Session D d) (s : List ℕ) (input : Input) (source before held : Option (List ℕ)) (refused : Bool) (lines : ℕ) (acks : List Ack)
@@ -321,6 +340,7 @@ module _ {D : Type 0} {d : Ghosts D} where
         acks_are = so.acks_are ∙ sym (append-nil (acknowledged 0 so.entries));
       };
       lasts = so.lasts;
+      bounded = λ n fresh. (so.spending n fresh).bounded;
     }
 
     over_ends : (w : Session D d) (end : End) (durable : Bool) → so.rest ≡ [] → w.calls ≡ length (calls_of so.entries) → EndsOver end (state_of now) durable
@@ -385,12 +405,14 @@ module _ {D : Type 0} {d : Ghosts D} where
             calls_are = refl;
             acks_are = ap (map (λ (x : Ack). x.calls)) step.acks_are ∙ (acks_map acks step.durable (ack_now w) ∙ ap (λ x. x ++ one_if step.durable w.calls) so.acks_are);
           };
-          lasts = step_lasts first now w (calls_of so.entries) [] acks more step.durable so.so.served.made step.made step.survives joined step.kept step.acks_are so.lasts so.keeping;
+          lasts = step_lasts first now w (calls_of so.entries) [] acks more step.durable so.so.served.made step.made step.carries joined step.kept step.acks_are so.lasts so.keeping;
+          bounded = λ n fresh. (so.spending n fresh).bounded;
         }
 
   -- memory was wanting before the script was read
-  pub stage_none : (v : Session D d) (s : List ℕ) (before : Option (List ℕ)) → SessionRun v v s before before (record { end = ends.Memory; refused = false; lines = 0 }) []
-  stage_none v s before = record {
+  pub stage_none : (v : Session D d) (s : List ℕ) (before : Option (List ℕ)) → WantsAreSpent v.volume
+      → SessionRun v v s before before (record { end = ends.Memory; refused = false; lines = 0 }) []
+  stage_none v s before law = record {
     calls = [];
     run = record {
       entries = [];
@@ -406,6 +428,7 @@ module _ {D : Type 0} {d : Ghosts D} where
       acks_are = refl;
     };
     lasts = lasts_start v;
+    bounded = λ n fresh. (spending_start n v law fresh).bounded;
   }
 
 pub fault_long : (f : ScriptFault) → fault_end f ≡ ends.TooLong → f ≡ fault.TooLong
@@ -418,7 +441,3 @@ is_exit_last answered.Exit h = refl
 is_exit_last answered.Ok h = absurd (false≢true h)
 is_exit_last answered.Refused h = absurd (false≢true h)
 is_exit_last answered.Silent h = absurd (false≢true h)
-
-pub or_right : (a b : Bool) → (a || b) ≡ false → b ≡ false
-or_right true b h = absurd (false≢true (sym h))
-or_right false b h = h

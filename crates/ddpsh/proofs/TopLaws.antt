@@ -8,6 +8,7 @@ use Rattle.plain_volume.specs.declared.call.Call.{Call}
 use Rattle.plain_volume.specs.declared.call.Reply.{Reply}
 use Rattle.ddpsh.specs.States.{State}
 use Rattle.volume_core.specs.Volumes.{disk_of, device_of, view_now, IsKept}
+use Rattle.ddpsh.specs.Bounds.{Bounded, IsFresh}
 use Rattle.ddpsh.specs.Crashes.{Mounts, MountsAfter, Lasts, LastsFrom}
 use Rattle.vdisk.specs.Causes.{Rose}
 use Rattle.volume_inside.specs.declared.mount_fault.MountFault.{MountFault}
@@ -62,30 +63,50 @@ module _ {D : Type 0} {d : Ghosts D} where
   pub kept_as : (v w : Engine D d) → w ≡ v → IsKept v (view_now v) → IsKept w (view_now w)
   kept_as v w is kept = subst (λ (x : Engine D d). IsKept x (view_now x)) (sym is) kept
 
+  -- a run with what was wanting in it
+  abbrev RunBounded : Engine D d → Session D d → List ℕ → Option (List ℕ) → Option (List ℕ) → Ran
+      → List (Call × Reply) → List Ack → Type 0
+  RunBounded v now s before mid ran calls acks =
+      (run : RunOf (volume_state v) (state_of now) s before mid ran calls (map (λ x. x.calls) acks))
+      × ((n : ℕ) → IsFresh n v → Bounded n 0 (volume_state v) run.entries)
+
+  bounded_as : (v : Engine D d) (first now : Session D d) (s : List ℕ) (before mid : Option (List ℕ)) (ran : Ran)
+      (calls : List (Call × Reply)) (acks kept : List Ack) → first.volume ≡ v → kept ≡ acks
+      → (run : RunOf (state_of first) (state_of now) s before mid ran calls (map (λ x. x.calls) acks))
+      → ((n : ℕ) → IsFresh n first.volume → Bounded n 0 (state_of first) run.entries)
+      → RunBounded v now s before mid ran calls kept
+  bounded_as v first now s before mid ran calls acks kept volume same run bounded =
+      subst (λ (a : List Ack). RunBounded v now s before mid ran calls a) (sym same)
+      (subst (λ (e : Engine D d). RunBounded e now s before mid ran calls acks) volume (run, bounded))
+
   pub served_run : (v : Engine D d) (first now : Session D d) (back : D) (s : List ℕ) (before mid held : Option (List ℕ)) (faults between then : ℕ) (ran : Ran) (acks : List Ack) (outcome : Outcome)
       → first.volume ≡ v → back ≡ device_of now.volume → SessionRun first now s before mid ran acks → faults ≤ between → IsPrinted mid between (last_line ran.end) held then
       → outcome.status ≡ status_of ran.end ran.refused → outcome.lines ≡ ran.lines → outcome.opened ≡ Some (disk_of v).moment → outcome.acks ≡ acks
-      → IsServedRun (volume_state v) (disk_of v) (d.state back) s before held faults then outcome
-  served_run v first now back s before mid held faults between then ran acks outcome volume same run later printed status lines opened kept = record {
-    ran = ran;
-    closing = state_of now;
-    calls = run.calls;
-    mid = mid;
-    run = subst (λ (a : List Ack). RunOf (volume_state v) (state_of now) s before mid ran run.calls (map (λ x. x.calls) a)) (sym kept)
-        (subst (λ (e : Engine D d). RunOf (volume_state e) (state_of now) s before mid ran run.calls (map (λ x. x.calls) acks)) volume run.run);
-    lasts = subst (λ (a : List Ack). LastsFrom (view_now v) (disk_of v) (d.state back) run.calls a) (sym kept)
-        (subst (λ (x : D). LastsFrom (view_now v) (disk_of v) (d.state x) run.calls acks) (sym same)
-        (subst (λ (e : Engine D d). LastsFrom (view_now e) (disk_of e) (disk_of now.volume) run.calls acks) volume run.lasts));
-    printed = printed_since mid faults between then (last_line ran.end) held later printed;
-    status = status;
-    lines = lines;
-    opened = opened;
-  }
+      → IsServedRun v (d.state back) s before held faults then outcome
+  served_run v first now back s before mid held faults between then ran acks outcome volume same run later printed status lines opened kept =
+      let both =
+      bounded_as v first now s before mid ran run.calls acks outcome.acks volume kept run.run run.bounded in
+      record {
+        ran = ran;
+        closing = state_of now;
+        calls = run.calls;
+        mid = mid;
+        run = both.0;
+        bounded = both.1;
+        lasts = subst (λ (a : List Ack). LastsFrom (view_now v) (disk_of v) (d.state back) run.calls a) (sym kept)
+            (subst (λ (x : D). LastsFrom (view_now v) (disk_of v) (d.state x) run.calls acks) (sym same)
+            (subst (λ (e : Engine D d). LastsFrom (view_now e) (disk_of e) (disk_of now.volume) run.calls acks) volume run.lasts));
+        printed = printed_since mid faults between then (last_line ran.end) held later printed;
+        status = status;
+        lines = lines;
+        opened = opened;
+      }
 
   pub opened_run : (command : Command) (v : Engine D d) (old new : DiskState) (s : List ℕ) (before held : Option (List ℕ)) (faults then : ℕ) (outcome : Outcome)
       → Opens command old.image (view_now v) → IsKept v (view_now v) → (command ≡ Mount → IsOnlyRead old (disk_of v))
-      → IsServedRun (volume_state v) (disk_of v) new s before held faults then outcome → IsOpenedRun command old new s before held faults then outcome
-  opened_run command v old new s before held faults then outcome opens kept read run = record {
+      → ((n : ℕ) → command ≡ Format n → IsFresh n v) → IsServedRun v new s before held faults then outcome
+      → IsOpenedRun command old new s before held faults then outcome
+  opened_run command v old new s before held faults then outcome opens kept read fresh run = record {
     opening = volume_state v;
     opens = opens;
     opened = (disk_of v).moment;
@@ -100,6 +121,7 @@ module _ {D : Type 0} {d : Ghosts D} where
       acknowledged = run.lasts.acknowledged;
       order = run.lasts.order;
     };
+    bounded = λ n made. run.bounded n (fresh n made);
     from_start = λ mounted only.
         run.lasts.since old.moment ((read mounted).keeps.adds.later)
         (first_left old (disk_of v) (view_now v) (read mounted) only (mount_opens command old.image (view_now v) mounted opens));

@@ -11,7 +11,9 @@ use Rattle.volume_inside.specs.Inside.{Inside}
 use Rattle.volume_inside.specs.InsideOf.{InsideOf}
 use Rattle.volume_inside.specs.View.{view}
 use Rattle.volume_tables.specs.Mount.{read_meta}
-use Rattle.volume_core.specs.Volumes.{disk_of, device_of, view_now, stopped, IsKept}
+use Rattle.volume_core.specs.Bounds.{HasSpent}
+use Rattle.volume_core.specs.Volumes.{disk_of, device_of, view_now, clusters_in, stopped, IsKept}
+use Rattle.ddpsh.specs.Bounds.{touched_by_all}
 use Rattle.ddpsh.specs.declared.acks.Ack.{Ack}
 use Rattle.volume_core.specs.declared.volume.Volume.{Volume as Engine}
 
@@ -29,13 +31,17 @@ pub record MountsAfter (opening : Volume) (calls : List (Call × Reply)) (least 
   pub mounts : Mounts (replay opening (take count calls)) image
 
 module _ {D : Type 0} {d : Ghosts D} where
-  -- WHAT CALLS IN A ROW KEEP: at any moment of them a crash leaves what was kept before them, or the volume after the
-  -- first so many of them; and one of these is kept after them, unless the volume is stopped.
-  pub record Survives (old new : Engine D d) (calls : List (Call × Reply)) : Type 0 where
+  -- WHAT A LINE CARRIES OVER with its calls: at any moment of them a crash leaves what was kept before them, or the
+  -- volume after the first so many of them; and one of these is kept after them, unless the volume is stopped. What was
+  -- spent goes on by the clusters that they touch, one id and one epoch at most.
+  pub record Carries (old new : Engine D d) (calls : List (Call × Reply)) : Type 0 where
     pub moments : (w : Volume) → IsKept old w
         → Keeps (disk_of old) (disk_of new) (λ c. Mounts w c ⊎ MountsAfter (view_now old) calls 0 c)
     pub kept : (w : Volume) → IsKept old w → stopped new ≡ false
         → IsKept new w ⊎ ((k : ℕ) × (k ≤ length calls) × IsKept new (replay (view_now old) (take k calls)))
+    pub clusters : clusters_in new ≡ clusters_in old
+    pub spends : (b i : ℕ) → HasSpent old b i → stopped new ≡ false
+        → HasSpent new (b + touched_by_all calls) (i + 1)
 
 -- the moments of these acknowledgements never fall, from one moment to another
 abbrev pub AreInOrder : ℕ → List Ack → ℕ → Type 0

@@ -8,6 +8,7 @@ pub mod Runs
 pub mod Told
 pub mod Saying
 pub mod Listing
+pub mod Bounds
 pub mod Crashes
 pub mod Served
 pub mod Clocks
@@ -18,4 +19,5 @@ pub mod Outcomes
 pub mod Commands
 pub mod Opens
 pub mod Whole
+pub mod Complete
 pub mod Laws

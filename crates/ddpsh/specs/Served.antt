@@ -10,7 +10,7 @@ use Rattle.plain_volume.specs.declared.call.Reply.{Reply}
 use Rattle.ddpsh.specs.States.{State}
 use Rattle.volume_core.specs.Volumes.{device_of, disk_of, view_now, stopped, IsKept}
 use Rattle.volume_core.specs.Wants.{wants_of}
-use Rattle.ddpsh.specs.Crashes.{Survives}
+use Rattle.ddpsh.specs.Crashes.{Carries}
 use Rattle.ddpsh.specs.Script.{Item}
 use Rattle.ddpsh.specs.Answers.{Answer, text_of, Comes, Starts}
 use Rattle.ddpsh.specs.Runs.{Made, acknowledges}
@@ -38,7 +38,7 @@ module _ {D : Type 0} {d : Ghosts D} where
     pub comes : Comes item (volume_state old) calls answer (volume_state new)
     pub legal : Made (volume_state old) (volume_state new) calls
     pub count : made ≡ length calls
-    pub survives : Survives old new calls
+    pub carries : Carries old new calls
     pub kept : acknowledges item answer ≡ true → IsKept new (view_now new)
     pub text_is : text ≡ text_of answer
     pub kind_is : kind ≡ kind_of item answer
@@ -49,7 +49,7 @@ module _ {D : Type 0} {d : Ghosts D} where
     pub starts : Starts item (volume_state old) calls
     pub legal : Made (volume_state old) (volume_state new) calls
     pub count : made ≡ length calls
-    pub survives : Survives old new calls
+    pub carries : Carries old new calls
 
   -- what an item came to
   abbrev pub ComesTo : Item → Engine D d → Engine D d → ℕ → Result Answered SessionFault → List ℕ → Type 0

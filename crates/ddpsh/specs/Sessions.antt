@@ -7,7 +7,7 @@ use Rattle.plain_volume.specs.declared.call.Reply.{Reply}
 use Rattle.ddpsh.specs.States.{State, reply_in}
 use Rattle.volume_core.specs.Volumes.{disk_of, view_now, stopped, IsKept}
 use Rattle.ddpsh.specs.Served.{volume_state, ComesTo}
-use Rattle.ddpsh.specs.Crashes.{Survives}
+use Rattle.ddpsh.specs.Crashes.{Carries}
 use Rattle.ddpsh.specs.Script.{Item}
 use Rattle.ddpsh.specs.Answers.{Answer, text_of, said, is_accepted, is_refused, is_exit, Comes, Starts}
 use Rattle.ddpsh.specs.Runs.{Made, acknowledges}
@@ -112,7 +112,7 @@ module _ {D : Type 0} {d : Ghosts D} where
     pub ends : LineEnds result item (state_of old) (state_of new) calls durable before held
     pub counted : new.calls ≡ counted_on old.calls (length calls)
     pub few : length calls ≤ MOST_CALLS_OF_A_LINE
-    pub survives : Survives old.volume new.volume calls
+    pub carries : Carries old.volume new.volume calls
     pub acks : Acks new durable
 
   -- the same of the end of a script: no call is made
@@ -121,5 +121,5 @@ module _ {D : Type 0} {d : Ghosts D} where
     pub made : Made (state_of old) (state_of new) []
     pub ends : EndEnds result (state_of old) durable
     pub counted : new.calls ≡ old.calls
-    pub survives : Survives old.volume new.volume []
+    pub carries : Carries old.volume new.volume []
     pub acks : Acks new durable

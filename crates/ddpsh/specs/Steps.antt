@@ -7,8 +7,10 @@ use Rattle.plain_volume.specs.declared.call.Call.{Call}
 use Rattle.plain_volume.specs.declared.call.Call.TheVariants as call
 use Rattle.plain_volume.specs.declared.call.Reply.{Reply}
 use Rattle.ddpsh.specs.States.{State, reply_in}
-use Rattle.volume_core.specs.Volumes.{disk_of, view_now, IsKept}
-use Rattle.ddpsh.specs.Crashes.{Survives, LastsFrom}
+use Rattle.volume_core.specs.Bounds.{HasSpent}
+use Rattle.volume_core.specs.Volumes.{disk_of, view_now, clusters_in, IsKept}
+use Rattle.ddpsh.specs.Bounds.{touched_by_all, Bounded, IsFresh}
+use Rattle.ddpsh.specs.Crashes.{Carries, LastsFrom}
 use Rattle.ddpsh.specs.Script.{Item}
 use Rattle.ddpsh.specs.Answers.{Answer, said, is_accepted, is_refused}
 use Rattle.ddpsh.specs.Runs.{Entry, Made, StayOpen, calls_of, acknowledged}
@@ -61,7 +63,7 @@ module _ {D : Type 0} {d : Ghosts D} where
     pub ends : LineEnds result item (state_of old) (state_of new) calls durable before held
     pub counted : new.calls ≡ counted_on old.calls (length calls)
     pub few : length calls ≤ MOST_CALLS_OF_A_LINE
-    pub survives : Survives old.volume new.volume calls
+    pub carries : Carries old.volume new.volume calls
     pub acks_are : later ≡ acks ++ acks_when durable (ack_now new)
     pub kept : durable ≡ true → IsKept new.volume (view_now new.volume)
 
@@ -71,9 +73,15 @@ module _ {D : Type 0} {d : Ghosts D} where
     pub made : Made (state_of old) (state_of new) []
     pub ends : EndsOver end (state_of old) durable
     pub counted : new.calls ≡ old.calls
-    pub survives : Survives old.volume new.volume []
+    pub carries : Carries old.volume new.volume []
     pub acks_are : later ≡ acks ++ acks_when durable (ack_now new)
     pub kept : durable ≡ true → IsKept new.volume (view_now new.volume)
+
+  -- What a run over a fresh volume has spent at some point, and what was wanting by then.
+  pub record Spending (n : ℕ) (first now : Session D d) (entries : List Entry) : Type 0 where
+    pub clusters : clusters_in now.volume ≡ n
+    pub spent : HasSpent now.volume (touched_by_all (calls_of entries)) (length entries)
+    pub bounded : Bounded n 0 (state_of first) entries
 
   -- What is kept at some point of a run: the volume after a front of its calls, which holds every acknowledged call.
   pub record Keeping (opening : Volume) (now : Session D d) (calls : List (Call × Reply))
@@ -94,8 +102,10 @@ module _ {D : Type 0} {d : Ghosts D} where
     pub acks_are : map (λ ack. ack.calls) acks ≡ acknowledged 0 entries
     pub counted : now.calls ≡ length (calls_of entries)
     pub few : length (calls_of entries) ≤ MOST_CALLS_OF_A_LINE * taken input
+    pub short : length entries ≤ taken input
     pub lasts : LastsFrom (view_now first.volume) (disk_of first.volume) (disk_of now.volume) (calls_of entries) acks
     pub keeping : Keeping (view_now first.volume) now (calls_of entries) acks
+    pub spending : (n : ℕ) → IsFresh n first.volume → Spending n first now entries
 
   -- a run that is over: what it served, and what a crash leaves behind it
   pub record SessionRun (first now : Session D d) (script : List ℕ) (before held : Option (List ℕ)) (ran : Ran)
@@ -103,3 +113,4 @@ module _ {D : Type 0} {d : Ghosts D} where
     pub calls : List (Call × Reply)
     pub run : RunOf (state_of first) (state_of now) script before held ran calls (map (λ ack. ack.calls) acks)
     pub lasts : LastsFrom (view_now first.volume) (disk_of first.volume) (disk_of now.volume) calls acks
+    pub bounded : (n : ℕ) → IsFresh n first.volume → Bounded n 0 (state_of first) run.entries

@@ -1,9 +1,14 @@
 -- A whole run of the program.
 use Rattle.std.specs.Prelude.{◌≡◌, ◌⊎◌, ◌≤◌, ◌*◌, ℕ, Bool, false, List, [], Option, Some, None, length, map}
 use Rattle.vdisk.specs.Disk.{DiskState, Only}
+use Rattle.vdisk.specs.declared.disk.Disk.{Ghosts}
 use Rattle.plain_volume.specs.declared.call.Call.{Call}
 use Rattle.plain_volume.specs.declared.call.Reply.{Reply}
+use Rattle.volume_core.specs.Volumes.{disk_of, view_now}
+use Rattle.volume_core.specs.declared.volume.Volume.{Volume as Engine}
 use Rattle.ddpsh.specs.States.{State}
+use Rattle.ddpsh.specs.Served.{volume_state}
+use Rattle.ddpsh.specs.Bounds.{Bounded, IsFresh}
 use Rattle.ddpsh.specs.Crashes.{MountsAfter, Lasts, LastsFrom}
 use Rattle.volume_inside.specs.declared.mount_fault.MountFault.{MountFault}
 use Rattle.ddpsh.specs.Opens.{Opens, EndsUnopened, IsRefusedEnd}
@@ -11,24 +16,26 @@ use Rattle.ddpsh.specs.Told.{IsPrinted}
 use Rattle.ddpsh.specs.Ends.{RunOf}
 use Rattle.ddpsh.specs.Outcomes.{status_of, last_line}
 use Rattle.ddpsh.specs.declared.commands.Command.{Command}
-use Rattle.ddpsh.specs.declared.commands.Command.TheVariants.{Mount}
+use Rattle.ddpsh.specs.declared.commands.Command.TheVariants.{Mount, Format}
 use Rattle.ddpsh.specs.declared.ending.End.{End}
 use Rattle.ddpsh.specs.declared.ending.Ran.{Ran}
 use Rattle.ddpsh.specs.declared.top.Outcome.{Outcome}
 
--- a script that was served from a volume on, and the outcome
-pub record IsServedRun (opening : State) (first now : DiskState) (script : List ℕ) (before held : Option (List ℕ))
-    (faults_before faults_now : ℕ) (outcome : Outcome) : Type 0 where
-  pub ran : Ran
-  pub closing : State
-  pub calls : List (Call × Reply)
-  pub mid : Option (List ℕ)
-  pub run : RunOf opening closing script before mid ran calls (map (λ ack. ack.calls) outcome.acks)
-  pub lasts : LastsFrom opening.volume first now calls outcome.acks
-  pub printed : IsPrinted mid faults_before (last_line ran.end) held faults_now
-  pub status : outcome.status ≡ status_of ran.end ran.refused
-  pub lines : outcome.lines ≡ ran.lines
-  pub opened : outcome.opened ≡ Some first.moment
+module _ {D : Type 0} {d : Ghosts D} where
+  -- a script that was served from a volume on, and the outcome
+  pub record IsServedRun (first : Engine D d) (now : DiskState) (script : List ℕ) (before held : Option (List ℕ))
+      (faults_before faults_now : ℕ) (outcome : Outcome) : Type 0 where
+    pub ran : Ran
+    pub closing : State
+    pub calls : List (Call × Reply)
+    pub mid : Option (List ℕ)
+    pub run : RunOf (volume_state first) closing script before mid ran calls (map (λ ack. ack.calls) outcome.acks)
+    pub lasts : LastsFrom (view_now first) (disk_of first) now calls outcome.acks
+    pub bounded : (n : ℕ) → IsFresh n first → Bounded n 0 (volume_state first) run.entries
+    pub printed : IsPrinted mid faults_before (last_line ran.end) held faults_now
+    pub status : outcome.status ≡ status_of ran.end ran.refused
+    pub lines : outcome.lines ≡ ran.lines
+    pub opened : outcome.opened ≡ Some (disk_of first).moment
 
 -- A run that opened a volume: the script was served from it on, and a crash leaves a volume after a front of its calls.
 pub record IsOpenedRun (command : Command) (old new : DiskState) (script : List ℕ) (before held : Option (List ℕ))
@@ -43,6 +50,8 @@ pub record IsOpenedRun (command : Command) (old new : DiskState) (script : List 
   pub mid : Option (List ℕ)
   pub run : RunOf opening closing script before mid ran calls (map (λ ack. ack.calls) outcome.acks)
   pub lasts : Lasts opening.volume opened calls outcome.acks new
+  -- over a volume that was made anew nothing was wanting that was not spent
+  pub bounded : (n : ℕ) → command ≡ Format n → Bounded n 0 opening run.entries
   -- an image that is mounted, and that was all that a crash could leave, lasts from the start on
   pub from_start : command ≡ Mount → Only old.image old.may_leave
       → (c : List ℕ) → new.left_since old.moment c → MountsAfter opening.volume calls 0 c

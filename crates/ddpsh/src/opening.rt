@@ -1,7 +1,8 @@
 // A volume is opened: mounted, or made anew.
-ghost use Rattle.std.specs.Prelude.{◌≡◌, ◌≤◌, false, IsTrue, IfOk, IfErr};
+ghost use Rattle.std.specs.Prelude.{◌≡◌, ◌≤◌, false, ℕ, IsTrue, IfOk, IfErr};
 ghost use Rattle.meta_log.specs.Opened.{IsOnlyRead};
 ghost use Rattle.ddpsh.specs.Answers.{Refused, text_of};
+ghost use Rattle.ddpsh.specs.Bounds.{IsFresh};
 ghost use Rattle.ddpsh.specs.Commands.{IsInRange};
 ghost use Rattle.ddpsh.specs.Opens.{Opens, IsRefusal, IsRefusedEnd};
 ghost use Rattle.ddpsh.specs.Outcomes.{mount_text};
@@ -27,6 +28,7 @@ pub(crate) fn open<D: Disk>(
         IfOk result (λ v. Opens command (D.state disk).image (view_now v)) }
     ensures kept { IsTrue (D.state disk).tells → IfOk result (λ v. IsKept v (view_now v)) }
     ensures runs { IfOk result (λ v. stopped v ≡ false) }
+    ensures fresh { (n : ℕ) → command ≡ asks.Format n → IfOk result (λ v. IsFresh n v) }
     ensures refused { IfErr result (λ e. IsRefusal command (D.state disk) (D.state e.0) e.1) }
     ensures later { IfOk result (λ v. (D.state disk).faults ≤ (disk_of v).faults) }
     ensures read { command ≡ asks.Mount → IfOk result (λ v. IsOnlyRead (D.state disk) (disk_of v)) }

@@ -1,11 +1,12 @@
 // The loop over a script.
-ghost use Rattle.std.specs.Prelude.{◌≡◌, ◌≤◌, ◌<◌, ◌⊎◌, ◌^◌, ◌||◌, false, ℕ, List, Some, [], length, IfOk, IsErrOf, vec_capacity};
+ghost use Rattle.std.specs.Prelude.{◌≡◌, ◌≤◌, ◌<◌, ◌⊎◌, ◌^◌, ◌||◌, false, ℕ, List, Some, [], length};
+ghost use Rattle.std.specs.Prelude.{IfOk, OnOk, IsErrOf, vec_capacity};
 ghost use Rattle.vdisk.specs.Causes.{Rose};
 ghost use Rattle.cmdlet_line.specs.Lines.{line_of};
 ghost use Rattle.ddpsh.specs.declared.limits.TheConstants.{MOST_SCRIPT, MOST_KEPT};
 ghost use Rattle.ddpsh.specs.Input.{ahead};
 ghost use Rattle.ddpsh.specs.Script.{item_of, volume_text};
-ghost use Rattle.volume_core.specs.Volumes.{disk_of, view_now, IsKept};
+ghost use Rattle.volume_core.specs.Volumes.{disk_of, view_now, stopped, IsKept};
 ghost use Rattle.ddpsh.specs.Served.{StaysSame};
 ghost use Rattle.ddpsh.specs.Sessions.{is_over, is_last};
 ghost use Rattle.plain_volume.specs.Volume.{Volume as PlainVolume};
@@ -19,7 +20,7 @@ use crate::ending::{End, Ran};
 use crate::input::{Input, ScriptFault};
 use crate::items::read_item;
 use crate::limits::MOST_KEPT;
-use crate::session::Session;
+use crate::session::{Session, wants_are_spent};
 use crate::stops::SessionFault;
 use std::alloc::{AllocError, Global};
 use vdisk::{Clock, Disk, Sink, Source};
@@ -115,6 +116,7 @@ fn serve_line<K: Sink, D: Disk, C: Clock>(
     ensures text { session.new.text ≡ session.old.text }
     ensures same { StaysSame session.old.volume session.new.volume }
     ensures runs { IfOk result (λ a. is_over session.new ≡ is_last a) }
+    ensures goes_on { OnOk result (stopped session.new.volume ≡ false) }
     ensures disk_later { (disk_of session.old.volume).faults ≤ (disk_of session.new.volume).faults }
     ensures clock_later { C.faults clock.old ≤ C.faults clock.new }
     ensures sink_later { K.faults out.old ≤ K.faults out.new }
@@ -177,6 +179,7 @@ pub(crate) fn serve<S: Source, K: Sink, D: Disk, C: Clock>(
     ensures too_long { (s : List ℕ) → S.left script.old ≡ Some s → result.0.end ≡ End.TooLong → MOST_SCRIPT < length s }
     ensures opened { (fault : MountFault) → result.0.end ≡ End.Refused fault → ⊥ }
 {
+    wants_are_spent(session);
     let mut refused = false;
     let mut lines = 0u64;
     let mut acks = Vec::new(alloc);
@@ -198,6 +201,7 @@ pub(crate) fn serve<S: Source, K: Sink, D: Disk, C: Clock>(
         match serve_line(alloc, session, &line, &payload, out, clock, &mut acks) {
             Err(stop) => return (Ran::new(end_of_stop(stop), refused, lines), acks),
             Ok(answered) => {
+                wants_are_spent(session);
                 refused = is_refusal(refused, answered);
                 lines += counted(answered);
                 if is_last(answered) {

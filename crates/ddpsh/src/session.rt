@@ -6,6 +6,7 @@ ghost use Rattle.cmdlet_line.specs.Lines.{line_of};
 ghost use Rattle.ddpsh.specs.Script.{item_of};
 ghost use Rattle.plain_volume.specs.Volume.{Volume as PlainVolume};
 ghost use Rattle.volume_core.specs.Volumes.{device_of, disk_of, stopped, IsKept};
+ghost use Rattle.ddpsh.specs.Bounds.{WantsAreSpent};
 ghost use Rattle.ddpsh.specs.Served.{asked_as, StaysSame};
 ghost use Rattle.ddpsh.specs.Clocks.{IsRead};
 ghost use Rattle.ddpsh.specs.Saying.{is_flushed, ended_by};
@@ -19,7 +20,7 @@ use cmdlet_line::{Line, LineFault, parse};
 use plain_volume::Fault;
 use std::alloc::Global;
 use vdisk::{Clock, Disk, Failed, Sink};
-use volume_core::Volume;
+use volume_core::{Volume, what_is_wanting_is_spent};
 
 /// A mounted volume with what a script over it needs: its volume text, and how many calls were made.
 #[derive(Drop)]
@@ -61,6 +62,13 @@ fn is_flushed(asked: Result<Line, LineFault>, answered: Answered) -> bool
         Ok(Line::Flush) => answered == Answered::Ok,
         _ => false,
     }
+}
+
+/// Where a resource is wanting for a call on the session's volume, it is spent.
+pub(crate) fn wants_are_spent<D: Disk>(session: &Session<D>)
+    ensures { WantsAreSpent session.now.volume }
+{
+    what_is_wanting_is_spent(&session.volume);
 }
 
 /// How a session ends where its last flush is refused.
@@ -205,6 +213,7 @@ impl<D: Disk> Session<D> {
         ensures text { self.new.text ≡ self.old.text }
         ensures same { StaysSame self.old.volume self.new.volume }
         ensures runs { IfOk result (λ a. is_over self.new ≡ is_last a) }
+        ensures goes_on { OnOk result (stopped self.new.volume ≡ false) }
         ensures disk_later { (disk_of self.old.volume).faults ≤ (disk_of self.new.volume).faults }
         ensures clock_later { C.faults clock.old ≤ C.faults clock.new }
         ensures sink_later { K.faults out.old ≤ K.faults out.new }

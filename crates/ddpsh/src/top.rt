@@ -6,9 +6,9 @@ ghost use Rattle.ddpsh.specs.declared.commands.Command.{Command};
 ghost use Rattle.ddpsh.specs.declared.limits.TheConstants.{MOST_SCRIPT};
 ghost use Rattle.ddpsh.specs.Answers.{Refused, text_of};
 ghost use Rattle.ddpsh.specs.Commands.{Asks, IsInRange, usage};
+ghost use Rattle.ddpsh.specs.Complete.{CanOpen, DidNotRise, IsComplete};
 ghost use Rattle.ddpsh.specs.Opens.{IsRefusal, is_reason};
 ghost use Rattle.ddpsh.specs.Outcomes.{last_line, mount_text};
-ghost use Rattle.ddpsh.specs.Served.{volume_state};
 ghost use Rattle.ddpsh.specs.Told.{IsPrinted};
 ghost use Rattle.volume_core.specs.Volumes.{device_of, disk_of, view_now, stopped, IsKept};
 ghost use Rattle.ddpsh.specs.Whole.{IsRun, IsServedRun, IsRefusedRun, HasEnded, IsEarly, IsEarlyStatus, IsServedStatus};
@@ -25,6 +25,7 @@ use cmdlet_line::Words;
 use std::alloc::Global;
 use vdisk::{Clock, Disk, Sink, Source};
 use volume_core::Volume;
+use volume_inside::an_image_has_one_inside;
 use volume_tables::MountFault;
 
 /// What a run of the program comes to.
@@ -101,8 +102,8 @@ fn serve_script<S: Source, K: Sink, D: Disk, C: Clock>(
 ) -> (D, Outcome)
     requires { stopped volume ≡ false }
     ensures run { IsKept volume (view_now volume) → (s : List ℕ) →
-        S.left script.old ≡ Some s → IsServedRun (volume_state volume) (disk_of volume) (D.state result.0) s
-        (K.held out.old) (K.held out.new) (K.faults out.old) (K.faults out.new) result.1 }
+        S.left script.old ≡ Some s → IsServedRun volume (D.state result.0) s (K.held out.old) (K.held out.new)
+        (K.faults out.old) (K.faults out.new) result.1 }
     ensures ended { HasEnded (K.held out.new) (K.faults out.old) (K.faults out.new) result.1 }
     ensures same { (x : D) → D.is_same x (device_of volume) → D.is_same x result.0 }
     ensures status { IsServedStatus result.1.status }
@@ -187,7 +188,13 @@ pub fn run<S: Source, K: Sink, D: Disk, C: Clock>(
     ensures sink { result.status ≡ 6 → Rose (K.faults out.old) (K.faults out.new) }
     ensures source { result.status ≡ 7 → Rose (S.faults script.old) (S.faults script.new)
         ⊎ ((s : List ℕ) → S.left script.old ≡ Some s → MOST_SCRIPT < length s) }
+    ensures complete { (command : Command) → Asks words.now command → CanOpen command (D.state disk.old) →
+        DidNotRise (D.state disk.old).faults (D.state disk.new).faults →
+        DidNotRise (C.faults clock.old) (C.faults clock.new) → DidNotRise (K.faults out.old) (K.faults out.new) →
+        DidNotRise (S.faults script.old) (S.faults script.new) → (s : List ℕ) → S.left script.old ≡ Some s →
+        IsComplete s result.status }
 {
+    an_image_has_one_inside();
     match command_of(words) {
         None => {
             print_last(out, usage());

@@ -16,6 +16,7 @@ returns-clause-told g c w kept =
       want = c.create-given.ensures.want;
       fails = refl;
       endures = c.create-given.ensures.endures;
+      adds = c.create-given.ensures.adds;
     } in
     rw c.called.ensures
     (comes_call (Bare (Create c.args.name.now)) (call.Create c.args.name.now) _ _ _ _ c.done.result did

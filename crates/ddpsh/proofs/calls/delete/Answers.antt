@@ -17,6 +17,7 @@ returns-clause-told g c w kept =
       want = c.delete-given.ensures.want;
       fails = refl;
       endures = c.delete-given.ensures.endures;
+      adds = c.delete-given.ensures.adds;
     } in
     rw c.called.ensures
     (comes_call (Bare (Delete c.args.name.now)) (call.Delete c.args.name.now) _ _ _ _ c.done.result did

@@ -22,6 +22,7 @@ returns-in-Ok-clause-told g c w kept =
       want = tt;
       fails = refl;
       endures = c.digest.ensures.endures;
+      adds = c.digest.ensures.adds;
     } in
     rw c.called.ensures
     (comes_call (Bare (Digest c.args.name.now)) (call.Digest c.args.name.now) _ _ _ _ c.accepted_digest.result did
@@ -41,6 +42,7 @@ returns-in-Err-clause-told g c w kept =
       want = tt;
       fails = refl;
       endures = c.digest.ensures.endures;
+      adds = c.digest.ensures.adds;
     } in
     rw c.called-in-Err.ensures
     (comes_call (Bare (Digest c.args.name.now)) (call.Digest c.args.name.now) _ _ _ _ c.refused_call.result did

@@ -15,6 +15,7 @@ returns-in-Ok-flush-clause-told g c w kept =
       left = c.in-Ok-flush.ensures.left;
       durable = c.in-Ok-flush.ensures.durable w kept;
       endures = c.flush.ensures.endures;
+      adds = c.flush.ensures.adds;
     } in
     rw c.uncalled-in-Ok-flush.ensures (exit_done c.args.volume.now c.flush.new.self c.accepted.new.text.items did c.in-Ok.ensures.said.text_is)
 
@@ -25,6 +26,7 @@ returns-in-Err-flush-clause-told g c w kept =
       left = c.in-Err-flush.ensures.left;
       durable = tt;
       endures = c.flush.ensures.endures;
+      adds = c.flush.ensures.adds;
     } in
     rw c.uncalled-in-Err-flush.ensures
     (exit_refused c.args.volume.now c.flush.new.self c.refused_call.new.text.items c.in-Err-flush.fault c.refused_call.result did c.refused_call.ensures.said)

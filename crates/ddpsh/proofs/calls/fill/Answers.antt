@@ -17,6 +17,7 @@ returns-in-Ok-clause-told g c w kept =
       want = c.write-given.ensures.want;
       fails = refl;
       endures = c.write-given.ensures.endures;
+      adds = c.write-given.ensures.adds;
     } in
     rw c.called.ensures
     (comes_call (Bare (Fill c.args.name.now c.args.at c.args.count c.args.byte))

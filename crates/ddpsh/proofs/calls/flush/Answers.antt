@@ -15,12 +15,14 @@ returns-clause-told g c w kept =
       want = c.flush-given.ensures.want;
       fails = refl;
       endures = c.flush-given.ensures.endures;
+      adds = c.flush-given.ensures.adds;
     } in
     let flushed : Flushed c.args.volume.now c.flush-given.new.self c.flush-given.result = record {
       replied = c.flush-given.ensures.reply;
       left = c.flush-given.ensures.left;
       durable = c.flush-given.ensures.durable w kept;
       endures = c.flush-given.ensures.endures;
+      adds = c.flush-given.ensures.adds;
     } in
     rw c.called.ensures
     (comes_call (Bare Flush) call.Flush _ _ _ _ c.done.result did (fits_once (Bare Flush) call.Flush (λ v w calls answer h. h) (λ v calls h. h) refl)

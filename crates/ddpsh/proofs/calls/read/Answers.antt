@@ -30,6 +30,7 @@ returns-in-Ok-read_into-clause-told g c w kept =
       want = tt;
       fails = refl;
       endures = c.read_into.ensures.endures;
+      adds = c.read_into.ensures.adds;
     } in
     rw c.called.ensures
     (comes_call (Bare (Read c.args.name.now c.args.at c.args.count)) (call.Read c.args.name.now c.args.at c.args.count) _ _ _ _ c.ended.result
@@ -52,6 +53,7 @@ returns-in-Err-read_into-clause-told g c w kept =
       want = tt;
       fails = refl;
       endures = c.read_into.ensures.endures;
+      adds = c.read_into.ensures.adds;
     } in
     rw c.called-in-Err-read_into.ensures
     (comes_call (Bare (Read c.args.name.now c.args.at c.args.count)) (call.Read c.args.name.now c.args.at c.args.count) _ _ _ _ c.refused_call.result

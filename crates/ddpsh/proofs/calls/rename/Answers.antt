@@ -17,6 +17,7 @@ returns-clause-told g c w kept =
       want = c.rename-given.ensures.want;
       fails = refl;
       endures = c.rename-given.ensures.endures;
+      adds = c.rename-given.ensures.adds;
     } in
     rw c.called.ensures
     (comes_call (Bare (Rename c.args.from.now c.args.to.now)) (call.Rename c.args.from.now c.args.to.now) _ _ _ _ c.done.result did

@@ -17,6 +17,7 @@ returns-clause-told g c w kept =
       want = c.set_length-given.ensures.want;
       fails = refl;
       endures = c.set_length-given.ensures.endures;
+      adds = c.set_length-given.ensures.adds;
     } in
     rw c.called.ensures
     (comes_call (Bare (Length c.args.name.now c.args.length)) (call.SetLength c.args.name.now c.args.length) _ _ _ _ c.done.result did

@@ -16,6 +16,7 @@ returns-clause-told g c w kept =
       want = c.write-given.ensures.want;
       fails = refl;
       endures = c.write-given.ensures.endures;
+      adds = c.write-given.ensures.adds;
     } in
     rw c.called.ensures
     (comes_call (Paid (Write c.args.name.now c.args.at c.args.count) c.args.payload.now) (call.Write c.args.name.now c.args.at c.args.payload.now) _ _ _ _ c.done.result did

@@ -4,15 +4,20 @@ use Rattle.ddpsh.specs.Input.{taken}
 use Rattle.ddpsh.specs.Script.{item_of, first_item}
 use Rattle.ddpsh.specs.Sessions.{is_over}
 use Rattle.ddpsh.specs.declared.answers.Answered.TheVariants as answered
-use Rattle.ddpsh.proofs.StageLaws.{stage_start, stage_none, stage_more, stage_exit, stage_stop, stage_fault, stage_over, fault_long, left_start, is_exit_last, or_right}
+use Rattle.ddpsh.proofs.StageLaws.{stage_start, stage_none, stage_more, stage_exit, stage_stop, stage_fault}
+use Rattle.ddpsh.proofs.StageLaws.{stage_over, fault_long, left_start, is_exit_last}
 use Rattle.ddpsh.proofs.serving.serve.Goals as goal
 
 pub returns-in-Err-clause-run : goal.returns-in-Err-clause-run
-returns-in-Err-clause-run g c kept s told = rw (c.new.ensures, c.new-acks.ensures.items) (stage_none _ s _)
+returns-in-Err-clause-run g c kept s told =
+    rw (c.new.ensures, c.new-acks.ensures.items) (stage_none _ s _ c.wants_are_spent.ensures)
 
 pub items-init : goal.items-init
 items-init g c = record {
-  so = λ kept s told. rw c.new-acks.ensures.items (stage_start _ s _ _ _ c.in-Ok.ensures.ahead c.in-Ok.ensures.came told c.requires.fresh kept);
+  so = λ kept s told.
+      rw c.new-acks.ensures.items
+      (stage_start _ s _ _ _ c.in-Ok.ensures.ahead c.in-Ok.ensures.came told c.requires.fresh kept
+      c.wants_are_spent.ensures);
   read = λ s told. (s, left_start _ _ s c.in-Ok.ensures.ahead c.in-Ok.ensures.came told);
   running = c.requires.running;
   text = c.requires.text;
@@ -61,7 +66,9 @@ returns-then-is_last-clause-run g c kept s told =
     let few : taken c.items.input ≤ 2 ^ 40 = omega (arith, c.items.input.few) in
     rw (c.new-then-is_last.ensures, c.is_refusal-refused.ensures, c.counted-lines.ensures.kind)
     (stage_exit _ _ _ s _ c.read_item.new.input _ _ _ _ _ _ _ _ _ c.read_item.new.line.items c.read_item.new.payload.items _ so is few c.in-Ok-serve_line.answered
-    (is_exit_last c.in-Ok-serve_line.answered (sym c.is_last.ensures ∙ c.if-is_last.true)) read (c.in-Ok-serve_line.ensures.told _ so.keeping.kept))
+    (is_exit_last c.in-Ok-serve_line.answered (sym c.is_last.ensures ∙ c.if-is_last.true)) read
+    c.in-Ok-serve_line.ensures.goes_on c.wants_are_spent-in-Ok-serve_line.ensures
+    (c.in-Ok-serve_line.ensures.told _ so.keeping.kept))
 
 pub items-preserved : goal.items-preserved
 items-preserved g c = rw c.round.ensures.idle (record {
@@ -76,7 +83,8 @@ items-preserved g c = rw c.round.ensures.idle (record {
       let last = sym c.is_last.ensures ∙ c.if-is_last.false in
       rw (c.is_refusal-refused.ensures, c.counted-lines.ensures.kind)
       (stage_more _ _ _ s _ c.read_item.new.input _ _ _ _ _ _ _ _ _ c.read_item.new.line.items c.read_item.new.payload.items _ so is few c.in-Ok-serve_line.answered read more last
-      (or_right c.serve_line.new.session.over _ (c.in-Ok-serve_line.ensures.runs ∙ last)) (c.in-Ok-serve_line.ensures.told _ so.keeping.kept));
+      c.in-Ok-serve_line.ensures.goes_on c.wants_are_spent-in-Ok-serve_line.ensures
+      (c.in-Ok-serve_line.ensures.told _ so.keeping.kept));
   read = λ s told.
       let so = c.items.invariant.read s told in
       let read = (rw c.if-not-some.false at c.in-Ok-read_item.ensures.item) _ so.0 so.1 in

@@ -4,4 +4,6 @@ use Rattle.ddpsh.proofs.top.run_over.Goals as goal
 
 pub returns-in-Ok-clause-run : goal.returns-in-Ok-clause-run
 returns-in-Ok-clause-run g c tells s told =
-    inl (opened_run c.args.command c.in-Ok.volume _ _ s _ _ _ _ _ (c.in-Ok.ensures.opens tells) (c.in-Ok.ensures.kept tells) c.in-Ok.ensures.read (c.serve_script.ensures.run (c.in-Ok.ensures.kept tells) s told))
+    inl (opened_run c.args.command c.in-Ok.volume _ _ s _ _ _ _ _ (c.in-Ok.ensures.opens tells)
+    (c.in-Ok.ensures.kept tells) c.in-Ok.ensures.read c.in-Ok.ensures.fresh
+    (c.serve_script.ensures.run (c.in-Ok.ensures.kept tells) s told))

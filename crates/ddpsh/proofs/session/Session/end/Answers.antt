@@ -10,6 +10,7 @@ returns-in-Ok-clause-told g c w kept =
       left = c.in-Ok.ensures.left;
       durable = c.in-Ok.ensures.durable w kept;
       endures = c.flush.ensures.endures;
+      adds = c.flush.ensures.adds;
     } in
     end_ok c.args.self.now _ did refl (rw c.ack_now.ensures refl)
 
@@ -20,5 +21,6 @@ returns-in-Err-clause-told g c w kept =
       left = c.in-Err.ensures.left;
       durable = tt;
       endures = c.flush.ensures.endures;
+      adds = c.flush.ensures.adds;
     } in
     end_refused_as c.args.self.now _ c.in-Err.fault c.ended_by.result c.ended_by.ensures did refl refl
