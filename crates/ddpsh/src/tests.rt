@@ -1,10 +1,15 @@
 // What no clause says: that runs succeed with ample memory, and that scripts have the answers worked out by hand.
 mod crashes;
+mod cuts;
 mod faults;
+mod history;
 mod images;
+mod names;
 mod reading;
 mod reference;
 mod scripts;
+mod space;
+mod told;
 
 use crate::{Outcome, run};
 use cmdlet_line::Words;

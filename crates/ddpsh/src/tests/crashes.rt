@@ -1,74 +1,14 @@
 // A run is stopped at each call of its disk, and each image that is left is mounted.
 ghost use Rattle.std.specs.Prelude.{◌<◌};
 
-use super::reading::{NAMES, read_all, reading_script};
+use super::history::{History, Step};
+use super::reading::{NAMES, reading_script};
 use super::{MOUNT, image_of, run_on};
 use crate::Outcome;
-use plain_volume::{Bytes, Call, Name, Reference};
 use std::alloc::Global;
 use std::process::Abort;
 use std::test::Fail;
 use vdisk::{Failed, MemoryDisk};
-
-/// A script and the calls that it makes.
-#[derive(Drop)]
-struct History {
-    alloc: Global,
-    script: Vec<u8>,
-    calls: Vec<Call>,
-}
-
-impl History {
-    fn new(alloc: Global) -> History {
-        History {
-            alloc,
-            script: Vec::new(alloc),
-            calls: Vec::new(alloc),
-        }
-    }
-
-    fn create(&mut self, name: &[u8]) -> Result<(), Fail> {
-        self.script.extend_from_slice(b"create ")?;
-        self.script.extend_from_slice(name)?;
-        self.script.extend_from_slice(b"\n")?;
-        self.calls.push(Call::Create(Name::of(self.alloc, name)?))?;
-        Ok(())
-    }
-
-    fn write(&mut self, name: &[u8], at: u64, bytes: &[u8]) -> Result<(), Fail> {
-        let count = bytes.len();
-        self.script.extend_from_slice(b"write ")?;
-        self.script.extend_from_slice(name)?;
-        let rest = format!(in self.alloc; " {at} {count}\n")?;
-        self.script.extend_from_slice(rest.as_bytes())?;
-        self.script.extend_from_slice(bytes)?;
-        self.script.extend_from_slice(b"\n")?;
-        self.calls.push(Call::Write(
-            Name::of(self.alloc, name)?,
-            at,
-            Bytes::of(self.alloc, bytes)?,
-        ))?;
-        Ok(())
-    }
-
-    fn flush(&mut self) -> Result<(), Fail> {
-        self.script.extend_from_slice(b"flush\n")?;
-        self.calls.push(Call::Flush)?;
-        Ok(())
-    }
-
-    /// What is read back after each front of the calls.
-    fn fronts(&self) -> Result<Vec<Vec<u8>>, Fail> {
-        let mut reference = Reference::new(self.alloc);
-        let mut fronts = Vec::new(self.alloc);
-        fronts.push(read_all(self.alloc, &mut reference)?)?;
-        for call in &self.calls {
-            let _reply = reference.apply(call)?;
-            fronts.push(read_all(self.alloc, &mut reference)?)?;
-        }
-        Ok(fronts)
-    }
-}
 
 /// How many calls the last acknowledgement holds.
 fn acknowledged(outcome: &Outcome) -> u64 {
@@ -81,10 +21,18 @@ fn acknowledged(outcome: &Outcome) -> u64 {
     calls
 }
 
-/// Is this what is read back after some front of the calls that has so many at least?
-fn holds_a_prefix(fronts: &Vec<Vec<u8>>, least: u64, printed: &[u8]) -> bool {
+/// What was asked of a run that was stopped: the calls that its last acknowledgement holds, and all that it made.
+#[derive(Clone, Copy)]
+struct Asked {
+    least: u64,
+    most: u64,
+}
+
+/// Is this what is read back after some front of the calls that has so many?
+fn holds_a_prefix(fronts: &Vec<Vec<u8>>, asked: Asked, printed: &[u8]) -> bool {
     for (k, front) in fronts.iter().enumerate() {
-        if k as u64 >= least && front.as_slice() == printed {
+        let count = k as u64;
+        if asked.least <= count && count <= asked.most && front.as_slice() == printed {
             return true;
         }
     }
@@ -97,7 +45,7 @@ fn mounts_a_prefix(
     alloc: Global,
     left: &MemoryDisk,
     fronts: &Vec<Vec<u8>>,
-    least: u64,
+    asked: Asked,
     picks: [u64; 4],
 ) -> Result<(), Fail> {
     let script = reading_script(alloc)?;
@@ -106,15 +54,17 @@ fn mounts_a_prefix(
         let (printed, outcome) = run_on(alloc, &MOUNT, &script, &mut disk)?;
         assert!(rt; outcome.opened.is_some(), "pick {pick}");
         assert!(rt;
-            holds_a_prefix(fronts, least, &printed),
-            "pick {pick}, {least} calls"
+            holds_a_prefix(fronts, asked, &printed),
+            "pick {pick}, {} to {} calls",
+            asked.least,
+            asked.most
         );
     }
     Ok(())
 }
 
 /// Stops the run at each call of the disk.
-fn survives(
+pub fn survives(
     rt: &impl Abort,
     alloc: Global,
     history: &History,
@@ -127,7 +77,11 @@ fn survives(
         disk.fail_from(call);
         let (_, outcome) = run_on(alloc, &MOUNT, &history.script, &mut disk)?;
         if outcome.opened.is_some() {
-            mounts_a_prefix(rt, alloc, &disk, &fronts, acknowledged(&outcome), picks)?;
+            let asked = Asked {
+                least: acknowledged(&outcome),
+                most: outcome.lines.saturating_add(1),
+            };
+            mounts_a_prefix(rt, alloc, &disk, &fronts, asked, picks)?;
         }
         if outcome.status != 3 {
             assert_eq!(rt; acknowledged(&outcome), history.calls.len() as u64);
@@ -140,9 +94,9 @@ fn survives(
 /// One file, with five bytes.
 fn hello(alloc: Global) -> Result<History, Fail> {
     let mut history = History::new(alloc);
-    history.create(b"a")?;
-    history.write(b"a", 0, b"hello")?;
-    history.flush()?;
+    history.add(Step::Create("a"))?;
+    history.add(Step::Write("a", 0, b"hello"))?;
+    history.add(Step::Flush)?;
     Ok(history)
 }
 
@@ -153,23 +107,23 @@ const PLACES: [u64; 6] = [0, 8, 4088, 24, 40, 4080];
 fn writes(alloc: Global) -> Result<History, Fail> {
     let mut history = History::new(alloc);
     for name in NAMES {
-        history.create(name)?;
+        history.add(Step::Create(name))?;
     }
     let mut byte = b'A';
     for (round, at) in PLACES.iter().enumerate() {
         for name in NAMES {
-            history.write(name, *at, &[byte; 16])?;
+            history.add(Step::Write(name, *at, &[byte; 16]))?;
             byte = byte.wrapping_add(1);
         }
         if round != 0 && round != 3 {
-            history.flush()?;
+            history.add(Step::Flush)?;
         }
     }
     Ok(history)
 }
 
 /// The picks of what a crash leaves, 0 to 15, in groups so that each test is short.
-const PICKS: [[u64; 4]; 4] = [[0, 1, 2, 3], [4, 5, 6, 7], [8, 9, 10, 11], [12, 13, 14, 15]];
+pub const PICKS: [[u64; 4]; 4] = [[0, 1, 2, 3], [4, 5, 6, 7], [8, 9, 10, 11], [12, 13, 14, 15]];
 
 // The write makes one call of the disk and the flush four, after the last of which each image holds the file.
 #[test]

@@ -1,4 +1,5 @@
 // What a script prints, by the replies of a plain volume in memory.
+use hex::encode_to_slice;
 use plain_volume::{Call, Fault, Name, Reference, Reply};
 use std::alloc::Global;
 use std::test::Fail;
@@ -14,6 +15,11 @@ pub fn print_reply(alloc: Global, output: &mut Vec<u8>, reply: &Reply) -> Result
             output.extend_from_slice(bytes.as_bytes())?;
             output.extend_from_slice(b"\n")?;
         }
+        Reply::Digest(digest) => {
+            output.extend_from_slice(b"ok ")?;
+            print_digits(output, digest)?;
+            output.extend_from_slice(b"\n")?;
+        }
         Reply::Refused(fault) => {
             output.extend_from_slice(b"refused ")?;
             print_fault(alloc, output, *fault)?;
@@ -21,6 +27,13 @@ pub fn print_reply(alloc: Global, output: &mut Vec<u8>, reply: &Reply) -> Result
         }
         _ => return Err(Failed)?,
     }
+    Ok(())
+}
+
+fn print_digits(output: &mut Vec<u8>, digest: &[u8; 32]) -> Result<(), Fail> {
+    let mut digits = [0; 64];
+    encode_to_slice(digest.as_slice(), &mut digits).unwrap();
+    output.extend_from_slice(&digits)?;
     Ok(())
 }
 
@@ -44,15 +57,16 @@ fn print_fault(alloc: Global, output: &mut Vec<u8>, fault: Fault) -> Result<(), 
 const PLACES: [u64; 10] = [0, 8, 16, 24, 32, 40, 48, 4080, 4088, 4096];
 
 /// The files that are looked at.
-pub const NAMES: [&[u8]; 5] = [b"a", b"b", b"c", b"d", b"e"];
+pub const NAMES: [&str; 5] = ["a", "b", "c", "d", "e"];
 
-/// The reads that tell a file: one that is too long tells its length.
-fn reads(alloc: Global, name: &[u8]) -> Result<Vec<Call>, Fail> {
+/// What tells a file: the digest of all of it, a read that is too long and so tells its length, and reads of pieces.
+fn reads(alloc: Global, name: &str) -> Result<Vec<Call>, Fail> {
     let mut calls = Vec::new(alloc);
-    calls.push(Call::Read(Name::of(alloc, name)?, 0, 1_048_576))?;
-    calls.push(Call::Read(Name::of(alloc, name)?, 0, 5))?;
+    calls.push(Call::Digest(Name::of(alloc, name.as_bytes())?))?;
+    calls.push(Call::Read(Name::of(alloc, name.as_bytes())?, 0, 1_048_576))?;
+    calls.push(Call::Read(Name::of(alloc, name.as_bytes())?, 0, 5))?;
     for at in PLACES {
-        calls.push(Call::Read(Name::of(alloc, name)?, at, 8))?;
+        calls.push(Call::Read(Name::of(alloc, name.as_bytes())?, at, 8))?;
     }
     Ok(calls)
 }
@@ -62,11 +76,11 @@ pub fn reading_script(alloc: Global) -> Result<Vec<u8>, Fail> {
     let mut script = Vec::new(alloc);
     for name in NAMES {
         for call in &reads(alloc, name)? {
-            if let Call::Read(_, at, count) = call {
-                script.extend_from_slice(b"read ")?;
-                script.extend_from_slice(name)?;
-                script.extend_from_slice(format!(in alloc; " {at} {count}\n")?.as_bytes())?;
-            }
+            let line = match call {
+                Call::Read(_, at, count) => format!(in alloc; "read {name} {at} {count}\n")?,
+                _ => format!(in alloc; "digest {name}\n")?,
+            };
+            script.extend_from_slice(line.as_bytes())?;
         }
     }
     Ok(script)

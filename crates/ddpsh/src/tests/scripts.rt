@@ -1,6 +1,7 @@
 // Worked scripts over a fresh volume.
 ghost use Rattle.std.specs.Prelude.{◌<◌};
 
+use super::told::prints;
 use super::{FORMAT, MOUNT, count_of_acks, image_of, run_over};
 use std::alloc::Global;
 use std::test::Fail;
@@ -9,7 +10,8 @@ use vdisk::{Failed, MemorySink, MemorySource, ReaderSource, WriterSink};
 /// A script, what it prints, its status, and how many answers it has.
 type Case = (&'static [u8], &'static [u8], u8, u64);
 
-const FORMS: [Case; 20] = [
+/// Forms of lines.
+const FORMS: [Case; 15] = [
     (b"", b"", 0, 0),
     (b"\n\n  \n# \"x\n", b"", 0, 0),
     (b"create a", b"ok\n", 0, 1),
@@ -39,18 +41,23 @@ const FORMS: [Case; 20] = [
         1,
         2,
     ),
-    (b"create a\nread a 0 0\n", b"ok\nok 0\n\n", 0, 2),
-    (
-        b"create a\nread a 1 0\n",
-        b"ok\nrefused OutsideFile 0\n",
-        1,
-        2,
-    ),
     (b"create a\nflush\nexit\ncreate b\n", b"ok\nok\nok\n", 0, 3),
+];
+
+/// Files from their creation on: bytes are written and told, an empty file is read, a gap reads as zeros, and files are
+/// listed, renamed and lengthened.
+const FILES: [Case; 4] = [
     (
-        b"create a\nwrite a 0 5\nhello\ndigest a\n",
-        b"ok\nok\nok 2cf24dba5fb0a30e26e83b2ac5b9e29e1b161e5c1fa7425e73043362938b9824\n",
-        0,
+        b"create a\nwrite a 0 5\nhello\nread a 0 5\ndigest a\nread a 0 6\n",
+        b"ok\nok\nok 5\nhello\nok 2cf24dba5fb0a30e26e83b2ac5b9e29e1b161e5c1fa7425e73043362938b9824\n\
+          refused OutsideFile 5\n",
+        1,
+        5,
+    ),
+    (
+        b"create a\nread a 0 0\nread a 1 0\n",
+        b"ok\nok 0\n\nrefused OutsideFile 0\n",
+        1,
         3,
     ),
     (
@@ -67,13 +74,8 @@ const FORMS: [Case; 20] = [
     ),
 ];
 
-const PAYLOADS: [Case; 10] = [
-    (
-        b"create a\nwrite a 0 5\nhello\nread a 0 5\nread a 0 6\n",
-        b"ok\nok\nok 5\nhello\nrefused OutsideFile 5\n",
-        1,
-        4,
-    ),
+/// Writes whose payload is whole, cut or followed by something else than a newline.
+const PAYLOADS: [Case; 9] = [
     (b"create a\nwrite a 0 5\nhell", b"ok\nrefused Cut\n", 1, 2),
     (b"create a\nwrite a 0 5\n", b"ok\nrefused Cut\n", 1, 2),
     (b"create a\nwrite a 0 5\nhello", b"ok\nok\n", 0, 2),
@@ -155,6 +157,18 @@ fn worked_scripts(rt: HostRuntime) -> Result<(), Fail> {
         for case in PAYLOADS {
             assert!(rt; comes_to(rt.alloc(), &image, case, most)?, "{:?}", case.0);
         }
+    }
+    Ok(())
+}
+
+#[test]
+fn files_have_their_answers(rt: HostRuntime) -> Result<(), Fail> {
+    let image = image_of(rt.alloc(), b"")?;
+    for case in FILES {
+        for most in [1, usize::MAX] {
+            assert!(rt; comes_to(rt.alloc(), &image, case, most)?, "{:?}", case.0);
+        }
+        prints(&rt, rt.alloc(), case.0, case.1, case.2)?;
     }
     Ok(())
 }
