@@ -36,7 +36,7 @@ pub fn measure(
     put_all(&mut log, count)?;
     let putting = start.elapsed(rt)?;
     let disk = log.into_disk();
-    let written = disk.written;
+    let written = disk.counts.written;
     let start = Instant::now(rt)?;
     let log = open(rt.alloc(), disk, half)?;
     let opening = start.elapsed(rt)?;

@@ -4,6 +4,7 @@
 //! since the machine may be shared. Counts go to standard output, and are the same at each run.
 #![tactic(auto)]
 
+mod calls;
 mod counted;
 mod cut;
 mod index;
@@ -11,8 +12,10 @@ mod journal;
 mod lines;
 mod map;
 mod memory;
+mod overwrite;
 mod random;
 mod report;
+mod scripts;
 mod served;
 mod space;
 mod store;
@@ -23,7 +26,8 @@ use std::process::ExitCode;
 /// The largest size of `cut`, `lines` and `store`, in MiB: what one file of the volume holds.
 const MOST_MEBIBYTES: u64 = 1024;
 
-const USAGE: &str = "usage: ddpbench cut|lines|store MB, or ddpbench index|journal|map|space COUNT";
+const USAGE: &str =
+    "usage: ddpbench cut|lines|store MB, or ddpbench index|journal|map|overwrite|space COUNT";
 
 fn main(rt: HostRuntime) -> anyhow::Result<ExitCode> {
     let mut words = env::args(&rt)?;
@@ -44,6 +48,7 @@ fn main(rt: HostRuntime) -> anyhow::Result<ExitCode> {
         "index" if 0 < size => index::measure(&rt, size)?,
         "journal" if 0 < size => journal::measure(&rt, size)?,
         "map" if 0 < size => map::measure(&rt, size)?,
+        "overwrite" if 0 < size => overwrite::measure(&rt, size)?,
         "space" if 0 < size => space::measure(&rt, size)?,
         _ => {
             rt.eprintln(USAGE)?;

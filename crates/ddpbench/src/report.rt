@@ -74,3 +74,26 @@ pub fn per_mebibyte(name: &'static str, value: u64, mebibytes: u64, unit: &'stat
         unit,
     }
 }
+
+/// A part of a whole to two decimals, cut off, which prints as `figure: NAME VALUE UNIT`.
+#[derive(Clone, Copy)]
+pub struct Portion {
+    pub name: &'static str,
+    pub part: u64,
+    pub whole: u64,
+    pub unit: &'static str,
+}
+
+impl fmt::Display for Portion {
+    fn fmt<W: fmt::Write>(&self, f: &mut fmt::Formatter<W>) -> fmt::Result {
+        let hundredths = u128::from(self.part) * 100 / u128::from(self.whole.max(1));
+        write!(
+            f,
+            "figure: {} {}.{:02} {}",
+            self.name,
+            hundredths / 100,
+            hundredths % 100,
+            self.unit
+        )
+    }
+}

@@ -1,14 +1,14 @@
-// Files stored through the program over a real file, beside a plain copy of their bytes.
+// Files stored through the program over a real file, beside a plain copy of their bytes, and written anew.
 ghost use Rattle.std.specs.Prelude.{◌≤◌, ◌<◌, ◌*◌, ◌^◌};
 
-use crate::counted::Counted;
+use crate::counted::{Counted, Counts};
 use crate::memory::most_resident;
-use crate::random::add_random;
-use crate::report::{Figure, per_mebibyte, rate};
+use crate::report::{Figure, Portion, per_mebibyte, rate};
+use crate::scripts::{FILE_BYTES, ingest_script, rewrite_script};
 use crate::served::served;
 use cmdlet_line::Words;
 use ddpsh::Outcome;
-use std::alloc::{AllocError, Global};
+use std::alloc::Global;
 use std::fs::{self, File};
 use std::io::Write;
 use std::rt::{Clock as SystemTime, Files};
@@ -20,25 +20,50 @@ const IMAGE: &str = "ddpbench-store.img";
 
 const COPY: &str = "ddpbench-store.copy";
 
-/// The bytes of one file: a MiB.
-const PIECE: u64 = 1_048_576;
-
 /// The fewest and the most clusters of an image.
 const LEAST_CLUSTERS: u64 = 4096;
 
 const MOST_CLUSTERS: u64 = 1_048_576;
 
+/// The clusters beside those of the files: what is written anew between two flushes finds room in them.
+const SPARE_CLUSTERS: u64 = 4352;
+
 /// What a run of the program over the image came to.
 #[derive(Drop)]
 struct Stored {
     outcome: Outcome,
-    calls: u64,
-    written: u64,
+    counts: Counts,
     time: Duration,
 }
 
+/// The names of the figures of a run.
+#[derive(Clone, Copy)]
+struct Names {
+    run: &'static str,
+    rate: &'static str,
+    calls: &'static str,
+    commits: &'static str,
+    syncs: &'static str,
+}
+
+const INGEST: Names = Names {
+    run: "files",
+    rate: "store.ingest",
+    calls: "store.calls",
+    commits: "store.commits",
+    syncs: "store.syncs",
+};
+
+const REWRITE: Names = Names {
+    run: "anew",
+    rate: "store.rewrite",
+    calls: "store.rewrite.calls",
+    commits: "store.rewrite.commits",
+    syncs: "store.rewrite.syncs",
+};
+
 /// Stores `size` files of a MiB each with one flush at the end, copies the same bytes into another file with one sync,
-/// and mounts the image again.
+/// mounts the image again, and writes a MiB of each file anew. The time of a run has its format or mount in it.
 pub fn measure(
     rt: &(impl Print + Eprint + Alloc<A = Global> + SystemTime + Files<File = File>),
     size: u64,
@@ -46,39 +71,63 @@ pub fn measure(
     requires { size ≤ 1024 }
 {
     let alloc = rt.alloc();
-    let script = script_of(alloc, size)?;
+    let script = ingest_script(alloc, size)?;
     let _gone = fs::remove_file(rt, IMAGE);
     let copying = copy(rt, &script)?;
+    rt.eprintln(rate("store.copy", size.saturating_mul(FILE_BYTES), copying))?;
     let before = most_resident(rt)?;
-    let source = MemorySource::new(script);
-    let stored = serve(rt, &format_words(alloc, size)?, source)?;
-    let after = most_resident(rt)?;
+    let stored = serve(rt, &format_words(alloc, size)?, MemorySource::new(script))?;
+    let memory = most_resident(rt)?.saturating_sub(before);
+    tell(rt, INGEST, size, &stored)?;
+    rt.eprintln(per_mebibyte("store.memory", memory, size, "KiB/MiB"))?;
     let mounted = serve(rt, &mount_words(alloc)?, MemorySource::new(Vec::new(alloc)))?;
-    println!(rt;
-        "store files {size} lines {} status {} calls {} written {} mounted {}",
-        stored.outcome.lines,
-        stored.outcome.status,
-        stored.calls,
-        stored.written,
-        mounted.outcome.status
-    )?;
-    let bytes = size.saturating_mul(PIECE);
-    rt.eprintln(rate("store.copy", bytes, copying))?;
-    rt.eprintln(rate("store.ingest", bytes, stored.time))?;
-    rt.eprintln(per_mebibyte("store.calls", stored.calls, size, "calls/MiB"))?;
-    rt.eprintln(per_mebibyte(
-        "store.memory",
-        after.saturating_sub(before),
-        size,
-        "KiB/MiB",
-    ))?;
+    println!(rt; "store mounted {}", mounted.outcome.status)?;
     rt.eprintln(Figure {
         name: "store.mount",
         value: u64::try_from(mounted.time.as_micros()).unwrap_or(u64::MAX),
         unit: "us",
     })?;
+    let script = rewrite_script(alloc, size)?;
+    let anew = serve(rt, &mount_words(alloc)?, MemorySource::new(script))?;
+    tell(rt, REWRITE, size, &anew)?;
     fs::remove_file(rt, IMAGE)?;
     fs::remove_file(rt, COPY)?;
+    Ok(())
+}
+
+/// Tells what a run that wrote so many MiB came to.
+fn tell(
+    rt: &(impl Print + Eprint),
+    names: Names,
+    size: u64,
+    stored: &Stored,
+) -> anyhow::Result<()> {
+    let counts = stored.counts;
+    println!(rt;
+        "store {} {size} lines {} status {} calls {} written {} commits {} syncs {}",
+        names.run,
+        stored.outcome.lines,
+        stored.outcome.status,
+        counts.calls,
+        counts.written,
+        counts.commits,
+        counts.syncs
+    )?;
+    let bytes = size.saturating_mul(FILE_BYTES);
+    rt.eprintln(rate(names.rate, bytes, stored.time))?;
+    rt.eprintln(per_mebibyte(names.calls, counts.calls, size, "calls/MiB"))?;
+    rt.eprintln(Portion {
+        name: names.commits,
+        part: counts.commits,
+        whole: size,
+        unit: "commits/MiB",
+    })?;
+    rt.eprintln(Portion {
+        name: names.syncs,
+        part: counts.syncs,
+        whole: size,
+        unit: "syncs/MiB",
+    })?;
     Ok(())
 }
 
@@ -97,8 +146,7 @@ fn serve(
     let time = start.elapsed(rt)?;
     Ok(Stored {
         outcome,
-        calls: disk.calls,
-        written: disk.written,
+        counts: disk.counts,
         time,
     })
 }
@@ -110,7 +158,7 @@ fn copy(
 ) -> anyhow::Result<Duration> {
     let start = Instant::now(rt)?;
     let mut file = File::create(rt, COPY)?;
-    for piece in bytes.chunks(PIECE as usize) {
+    for piece in bytes.chunks(FILE_BYTES as usize) {
         file.write_all(piece)?;
     }
     file.sync_all()?;
@@ -121,7 +169,7 @@ fn copy(
 fn format_words(alloc: Global, size: u64) -> anyhow::Result<Words>
     requires { size ≤ 1024 }
 {
-    let data = size * 257;
+    let data = size * 257 + SPARE_CLUSTERS;
     let clusters = (data + data / 15 + 64)
         .max(LEAST_CLUSTERS)
         .min(MOST_CLUSTERS);
@@ -136,20 +184,4 @@ fn mount_words(alloc: Global) -> anyhow::Result<Words> {
     let mut words = Words::new(alloc);
     words.push(IMAGE)?;
     Ok(words)
-}
-
-/// A script that creates so many files, writes a MiB to each, and flushes.
-fn script_of(alloc: Global, size: u64) -> Result<Vec<u8>, AllocError>
-    requires { size ≤ 1024 }
-{
-    let mut script = Vec::new(alloc);
-    for k in 0..size {
-        script.extend_from_slice(format!(in alloc;
-            "create file-{k}\nwrite file-{k} 0 {PIECE}\n"
-        )?.as_bytes())?;
-        add_random(&mut script, k ^ 0x9e37_79b9_7f4a_7c15, PIECE as usize / 8)?;
-        script.push(b'\n')?;
-    }
-    script.extend_from_slice(b"flush\n")?;
-    Ok(script)
 }

@@ -1,0 +1,53 @@
+// Calls on a volume of which only this is told, that they were done; so no bench reads their contracts.
+ghost use Rattle.std.specs.Prelude.{◌≤◌, ◌^◌};
+
+use anyhow::bail;
+use std::alloc::Global;
+use vdisk::Disk;
+use volume_core::Volume;
+
+/// Makes an empty volume of so many clusters, from 4,096 to 1,048,576.
+pub fn format<D: Disk + Drop>(alloc: Global, disk: D, clusters: u32) -> anyhow::Result<Volume<D>>
+    requires least { 4096 ≤ clusters }
+    requires most { clusters ≤ 1048576 }
+{
+    match Volume::format(alloc, disk, clusters) {
+        Ok(volume) => Ok(volume),
+        Err((_disk, _fault)) => bail!("no volume was made"),
+    }
+}
+
+pub fn create<D: Disk>(volume: &mut Volume<D>, name: &[u8]) -> anyhow::Result<()> {
+    if volume.is_stopped() {
+        bail!("the volume is stopped");
+    }
+    if volume.create(name).is_err() {
+        bail!("a file was not created");
+    }
+    Ok(())
+}
+
+pub fn write<D: Disk>(
+    volume: &mut Volume<D>,
+    name: &[u8],
+    at: u64,
+    bytes: &[u8],
+) -> anyhow::Result<()> {
+    if volume.is_stopped() {
+        bail!("the volume is stopped");
+    }
+    if volume.write(name, at, bytes).is_err() {
+        bail!("a write was refused");
+    }
+    Ok(())
+}
+
+pub fn flush<D: Disk>(volume: &mut Volume<D>) -> anyhow::Result<()> {
+    if volume.is_stopped() {
+        bail!("the volume is stopped");
+    }
+    if volume.flush().is_err() {
+        bail!("a flush was refused");
+    }
+    Ok(())
+}
