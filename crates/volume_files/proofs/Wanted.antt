@@ -92,7 +92,7 @@ snd_and : (a b : Bool) → (a && b) ≡ true → b ≡ true
 snd_and true b is = is
 snd_and false b is = absurd (let clash : false ≡ true = is in cc)
 
-differ : {b : Bool} → b ≡ true → b ≡ false → ⊥
+pub differ : {b : Bool} → b ≡ true → b ≡ false → ⊥
 differ one two = let clash : true ≡ false = sym one ∙ two in cc
 
 module _ {D : Type 0} {d : Ghosts D} (t : Tables D d) (n : Needs) where
