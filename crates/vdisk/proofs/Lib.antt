@@ -1,3 +1,4 @@
 pub mod Past
 pub mod Silent
 pub mod Draws
+pub mod Still
