@@ -2,7 +2,8 @@
 
 ghost use Rattle.std.specs.Prelude.{◌≡◌, ◌⊎◌, ◌≤◌, ◌<◌, ◌*◌, ◌+◌, ℕ, List, []};
 ghost use Rattle.std.specs.Prelude.{false, length, take, IsTrue, Ok, IfOk, IfErr, OnOk, OnErr};
-ghost use Rattle.byte_map.specs.Words.{Map};
+ghost use Rattle.std.specs.FinMap.Entries.{put};
+ghost use Rattle.byte_map.specs.Words.{bytes_cmp};
 ghost use Rattle.meta_log.specs.Log.{IsLog, now_of, staged_of, state_of};
 ghost use Rattle.meta_log.specs.Meta.{meta_of};
 ghost use Rattle.table_records.specs.Settings.{settings_bytes};
@@ -19,6 +20,7 @@ ghost use Rattle.vdisk.specs.Steps.{Keeps};
 ghost use Rattle.volume_tables.specs.Log.{log_epoch};
 ghost use Rattle.volume_tables.specs.Formats.{IsCommitted, IsFormatFault, with_results};
 ghost use Rattle.volume_tables.specs.Formats.{IsBegun, IsMakeImage, SpellsNoFile};
+ghost use Rattle.volume_tables.specs.Staging.{IsQuiet};
 ghost use Rattle.volume_inside.specs.Shows.{Kept};
 ghost use Rattle.volume_tables.specs.Tables.{tables_now, area_of, disk_of, states_of};
 ghost use Rattle.volume_tables.specs.Tables.{staged_of as staged_in, stopped, IsTables};
@@ -87,20 +89,23 @@ fn first_settings(alloc: Global) -> Settings
     }
 }
 
+/// Stages a pair.
+fn stage_pair<D: Disk>(log: &mut MetaLog<D>, key: &[u8], value: &[u8]) -> Result<(), MetaFault>
+    ensures now { OnOk result (now_of log.new ≡ put bytes_cmp key.now value.now (now_of log.old)) }
+    ensures quiet { IsQuiet log.old log.new }
+{
+    log.stage_put(key, value)
+}
+
 /// Stages the results of all kinds.
 fn stage_results<D: Disk>(log: &mut MetaLog<D>) -> Result<(), MetaFault>
     ensures now { OnOk result (now_of log.new ≡ with_results (now_of log.old)) }
-    ensures log { (m : Map) → IsLog log.old m → IsLog log.new m }
-    ensures disk { log.new.disk ≡ log.old.disk }
-    ensures at { log.new.at ≡ log.old.at }
-    ensures half { log.new.half ≡ log.old.half }
-    ensures epoch { log_epoch log.new ≡ log_epoch log.old }
-    ensures stopped { log.new.stopped ≡ log.old.stopped }
+    ensures quiet { IsQuiet log.old log.new }
 {
-    log.stage_put(&[10, 1], &NO_RESULT)?;
-    log.stage_put(&[10, 2], &NO_RESULT)?;
-    log.stage_put(&[10, 3], &NO_RESULT)?;
-    log.stage_put(&[10, 4], &NO_RESULT)
+    stage_pair(log, &[10, 1], &NO_RESULT)?;
+    stage_pair(log, &[10, 2], &NO_RESULT)?;
+    stage_pair(log, &[10, 3], &NO_RESULT)?;
+    stage_pair(log, &[10, 4], &NO_RESULT)
 }
 
 /// Stages the first records of a volume.
@@ -108,15 +113,10 @@ fn stage_first<D: Disk>(log: &mut MetaLog<D>, settings: &[u8]) -> Result<(), Met
     requires empty { now_of log.old ≡ [] }
     requires settings { settings.now ≡ settings_bytes fresh_settings }
     ensures now { OnOk result (now_of log.new ≡ fresh_map) }
-    ensures log { (m : Map) → IsLog log.old m → IsLog log.new m }
-    ensures disk { log.new.disk ≡ log.old.disk }
-    ensures at { log.new.at ≡ log.old.at }
-    ensures half { log.new.half ≡ log.old.half }
-    ensures epoch { log_epoch log.new ≡ log_epoch log.old }
-    ensures stopped { log.new.stopped ≡ log.old.stopped }
+    ensures quiet { IsQuiet log.old log.new }
 {
-    log.stage_put(&[1], &FIRST_RECORD)?;
-    log.stage_put(&[9], settings)?;
+    stage_pair(log, &[1], &FIRST_RECORD)?;
+    stage_pair(log, &[9], settings)?;
     stage_results(log)
 }
 

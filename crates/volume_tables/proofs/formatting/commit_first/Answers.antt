@@ -11,47 +11,47 @@ use Rattle.volume_tables.proofs.formatting.commit_first.Goals as goal
 pub returns-in-Ok-commit-clause-log : goal.returns-in-Ok-commit-clause-log
 returns-in-Ok-commit-clause-log g c log =
     subst (λ (m : Map). IsLog {D = g.row.D.Denot} {d = g.D.Disk} c.commit.new.self m) c.in-Ok.ensures.now
-    (c.in-Ok-commit.ensures.ok [] (c.stage_first.ensures.log [] log))
+    (c.in-Ok-commit.ensures.ok [] (c.stage_first.ensures.quiet.log [] log))
 
 pub returns-in-Ok-commit-clause-settled : goal.returns-in-Ok-commit-clause-settled
 returns-in-Ok-commit-clause-settled g c log image left =
     let staged = c.stage_first.new.log in
     committed c.args.log.at c.args.log.half staged.at staged.half (g.D.Disk.state staged.disk)
     (g.D.Disk.state c.args.log.disk).image staged.map image
-    c.stage_first.ensures.at c.stage_first.ensures.half c.in-Ok.ensures.now
-    (ap (λ (disk : g.row.D.Denot). (g.D.Disk.state disk).image) c.stage_first.ensures.disk)
-    (c.in-Ok-commit.ensures.settled [] (c.stage_first.ensures.log [] log) image left)
+    c.stage_first.ensures.quiet.place.at c.stage_first.ensures.quiet.place.half c.in-Ok.ensures.now
+    (ap (λ (disk : g.row.D.Denot). (g.D.Disk.state disk).image) c.stage_first.ensures.quiet.disk)
+    (c.in-Ok-commit.ensures.settled [] (c.stage_first.ensures.quiet.log [] log) image left)
 
 pub returns-in-Err-clause-moments_err : goal.returns-in-Err-clause-moments_err
 returns-in-Err-clause-moments_err g c log =
     let l = c.args.log in
     subst (λ (x : g.row.D.Denot). Keeps (state_of l) (g.D.Disk.state x)
     (SpellsNoFile l.at l.half (length (state_of l).image)))
-    (sym (c.into_disk.ensures ∙ c.stage_first.ensures.disk)) (first_start l log)
+    (sym (c.into_disk.ensures ∙ c.stage_first.ensures.quiet.disk)) (first_start l log)
 
 pub returns-in-Ok-commit-clause-moments : goal.returns-in-Ok-commit-clause-moments
 returns-in-Ok-commit-clause-moments g c log =
-    let s = c.stage_first.ensures in
+    let s = c.stage_first.ensures.quiet in
     let staged = c.stage_first.new.log in
-    first_staged c.args.log staged (state_of c.commit.new.self) s.disk s.at s.half
+    first_staged c.args.log staged (state_of c.commit.new.self) s.disk s.place.at s.place.half
     (first_committed staged (s.log [] log) (state_of c.commit.new.self) (now_of staged) c.in-Ok.ensures.now
     (c.commit.ensures.moments [] (s.log [] log)))
 
 pub returns-in-Err-Failed-clause-moments_err : goal.returns-in-Err-Failed-clause-moments_err
 returns-in-Err-Failed-clause-moments_err g c log =
     let l = c.args.log in
-    let s = c.stage_first.ensures in
+    let s = c.stage_first.ensures.quiet in
     let staged = c.stage_first.new.log in
     subst (λ (x : g.row.D.Denot). Keeps (state_of l) (g.D.Disk.state x)
     (SpellsNoFile l.at l.half (length (state_of l).image))) (sym c.into_disk-in-Err-Failed.ensures)
-    (first_staged l staged (state_of c.commit.new.self) s.disk s.at s.half
+    (first_staged l staged (state_of c.commit.new.self) s.disk s.place.at s.place.half
     (first_committed staged (s.log [] log) (state_of c.commit.new.self) (now_of staged) c.in-Ok.ensures.now
     (c.commit.ensures.moments [] (s.log [] log))))
 
 pub returns-in-Err-commit : goal.returns-in-Err-commit
 returns-in-Err-commit g c =
     let l = c.args.log in
-    let s = c.stage_first.ensures in
+    let s = c.stage_first.ensures.quiet in
     let staged = c.stage_first.new.log in
     let into = c.into_disk-in-Err-commit.ensures in
     record {
@@ -62,7 +62,7 @@ returns-in-Err-commit g c =
       moments_err = λ log.
           subst (λ (x : g.row.D.Denot). Keeps (state_of l) (g.D.Disk.state x)
           (SpellsNoFile l.at l.half (length (state_of l).image))) (sym into)
-          (first_staged l staged (state_of c.commit.new.self) s.disk s.at s.half
+          (first_staged l staged (state_of c.commit.new.self) s.disk s.place.at s.place.half
           (first_committed staged (s.log [] log) (state_of c.commit.new.self) (now_of staged) c.in-Ok.ensures.now
           (c.commit.ensures.moments [] (s.log [] log))));
       later = tt;
@@ -83,6 +83,6 @@ returns-in-Ok-commit-clause-epoch g c =
     omega (
       arith,
       c.in-Ok-commit.ensures.epoch,
-      c.stage_first.ensures.epoch,
+      c.stage_first.ensures.quiet.place.epoch,
       one_or_none (needs_checkpoint c.stage_first.new.log),
     )

@@ -1,5 +1,14 @@
+use Rattle.volume_tables.proofs.Ending.{quiet_then}
 use Rattle.volume_tables.proofs.formatting.stage_first.Goals as goal
 
-pub returns-clause-log : goal.returns-clause-log
-returns-clause-log g c m log = c.stage_results.ensures.log m
-    (c.stage_put-2.ensures.log m (c.stage_put.ensures.log m log))
+pub returns-in_err-stage_pair-2-clause-quiet : goal.returns-in_err-stage_pair-2-clause-quiet
+returns-in_err-stage_pair-2-clause-quiet g c =
+    quiet_then c.args.log.now c.stage_pair.new.log c.stage_pair-2.new.log c.stage_pair.ensures.quiet
+    c.stage_pair-2.ensures.quiet
+
+pub returns-clause-quiet : goal.returns-clause-quiet
+returns-clause-quiet g c =
+    let first = c.stage_pair.new.log in
+    let last = c.stage_results.new.log in
+    quiet_then c.args.log.now first last c.stage_pair.ensures.quiet
+    (quiet_then first c.stage_pair-2.new.log last c.stage_pair-2.ensures.quiet c.stage_results.ensures.quiet)
