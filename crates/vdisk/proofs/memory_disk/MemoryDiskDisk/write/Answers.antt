@@ -1,4 +1,4 @@
-use Rattle.std.proofs.Common.{◌+◌, refl, subst, List, ℕ, sym, length, arith}
+use Rattle.std.proofs.Common.{◌+◌, inl, inr, refl, subst, List, ℕ, sym, length, arith}
 use Rattle.vdisk.specs.Disk.{ChangedWithin}
 use Rattle.vdisk.proofs.Past.{ends_same, part_changes, wrote_ends, wrote_on, wrote_crash, wrote_any, wrote_synced}
 use Rattle.vdisk.proofs.memory_disk.MemoryDiskDisk.write.Goals as goal
@@ -99,3 +99,12 @@ returns-in-Ok-2-clause-synced c =
     let was = c.in-Ok-2.ensures.events in
     let change : ChangedWithin c.args.at n m.bytes.items new = subst (λ (l : List ℕ). ChangedWithin c.args.at n m.bytes.items l) (sym c.in-Ok-2.ensures.image) (part_changes c.args.at c.part_kept-kept.result m.bytes.items c.args.bytes.now c.part_kept-kept.ensures.within c.requires) in
     wrote_synced c.args.at n m.moment m.bytes.items new was.0 m.events.items c.write_at.new.events.items c.requires change was.1 was.2
+
+pub returns-in-Ok-clause-torn : goal.returns-in-Ok-clause-torn
+returns-in-Ok-clause-torn c =
+    let m = c.args.self.now in
+    let n = length c.args.bytes.now in
+    let new = c.write_at.new.image.items in
+    let was = c.in-Ok.ensures.events in
+    let change : ChangedWithin c.args.at n m.bytes.items new = subst (λ (l : List ℕ). ChangedWithin c.args.at n m.bytes.items l) (sym c.in-Ok.ensures.image) (part_changes c.args.at c.part_kept-kept.result m.bytes.items c.args.bytes.now c.part_kept-kept.ensures.within c.requires) in
+    inl (wrote_any c.args.at n m.moment m.bytes.items new was.0 m.events.items c.write_at.new.events.items c.requires change was.1 was.2)
