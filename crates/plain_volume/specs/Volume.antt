@@ -42,6 +42,10 @@ is_lawful_byte b = nat_le 32 b && not (b == 34) && not (b == 127)
 abbrev pub is_lawful : List ℕ → Bool
 is_lawful name = nat_le 1 (length name) && nat_le (length name) MOST_BYTES_OF_A_NAME && list_all is_lawful_byte name
 
+-- the texts that stand for names or for parts of them: they may be longer than a name
+abbrev pub is_lawful_text : List ℕ → Bool
+is_lawful_text text = nat_le 1 (length text) && list_all is_lawful_byte text
+
 -- names are lawful and rise strictly, so they are distinct; the limits are kept
 pub record IsLawfulVolume (v : Volume) : Type 0 where
   pub rising : T (is_sorted name_cmp v)

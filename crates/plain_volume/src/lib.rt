@@ -24,7 +24,7 @@ pub use laws::{
     refused_calls_change_nothing, replies_fit_their_calls, steps_leave_one_volume,
 };
 pub use memory::Memory;
-pub use names::name_is_lawful;
+pub use names::{name_is_lawful, text_is_lawful};
 pub use reference::Reference;
 pub use rows::{
     a_gap_reads_as_zeros, an_empty_file_reads_nothing, hello_is_read_back, renamed_and_grown,

@@ -207,6 +207,9 @@ impl Disk for MemoryDisk {
             OnErr result ((memory_state self.new).image ≡ (memory_state self.old).image) }
         ensures any_bytes { OnOk result ((d c : List ℕ) → (memory_state self.old).may_leave d →
             ChangedWithin at (length bytes.now) d c → (memory_state self.new).may_leave c) }
+        ensures torn { OnErr result (((d c : List ℕ) → (memory_state self.old).may_leave d →
+            ChangedWithin at (length bytes.now) d c → (memory_state self.new).may_leave c)
+            ⊎ ((c : List ℕ) → (memory_state self.old).may_leave c → (memory_state self.new).may_leave c)) }
     {
         let fails = self.plan.next_fails();
         if self.moment == u64::MAX {

@@ -33,6 +33,8 @@ fresh_records = record {
     most_days = omega arith;
     least_threshold = omega arith;
     most_threshold = omega arith;
+    folders = refl;
+    types = refl;
   };
   results = fresh_results;
 }

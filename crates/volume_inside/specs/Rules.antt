@@ -1,10 +1,10 @@
 -- The rules of a volume's tables, each a fact of its own.
-use Rattle.std.specs.Prelude.{◌≡◌, ◌⊎◌, ◌≤◌, ◌<◌, ◌+◌, ◌*◌, ◌-◌, ◌^◌, ℕ, true, List, length, Option, Some, None, IsSome, IsSomeAnd, ◌==◌}
-use Rattle.std.specs.List.{filter}
+use Rattle.std.specs.Prelude.{◌≡◌, ◌⊎◌, ◌≤◌, ◌<◌, ◌+◌, ◌*◌, ◌-◌, ◌^◌, ℕ, Bool, true, List, length, Option, Some, None, IsSome, IsSomeAnd, ◌==◌}
+use Rattle.std.specs.List.{filter, list_all}
 use Rattle.std.specs.Ordering.{nat_cmp}
 use Rattle.std.specs.FinMap.{find}
 use Rattle.byte_map.specs.Words.{Map}
-use Rattle.plain_volume.specs.Volume.{is_lawful}
+use Rattle.plain_volume.specs.Volume.{is_lawful, is_lawful_text}
 use Rattle.plain_volume.specs.declared.limits.TheConstants.{MOST_FILES, MOST_BYTES_OF_A_FILE}
 use Rattle.table_records.specs.Keys.{single_cmp, kind_cmp}
 use Rattle.table_records.specs.WellFormed.{AllWellFormed}
@@ -27,12 +27,18 @@ pub record IsVolumeRecord (v : VolumeRecord) : Type 0 where
   pub some_id : 1 ≤ v.next_id
   pub last_id : v.next_id ≤ 2 ^ 48 - 1
 
+-- each text has at least one byte, and only bytes that a name may have
+abbrev pub are_lawful_texts : List (List ℕ) → Bool
+are_lawful_texts texts = list_all is_lawful_text texts
+
 pub record AreSettings (s : Settings) : Type 0 where
   pub least_size : 32768 ≤ s.minimum_size
   pub most_size : s.minimum_size ≤ 1073741824
   pub most_days : s.age_days ≤ 36500
   pub least_threshold : 2 ≤ s.threshold
   pub most_threshold : s.threshold ≤ 2 ^ 32 - 1
+  pub folders : are_lawful_texts s.folders ≡ true
+  pub types : are_lawful_texts s.types ≡ true
 
 pub record IsResultRecord (r : ResultRecord) : Type 0 where
   pub known : r.result ≤ 6

@@ -3,11 +3,12 @@ ghost use Rattle.std.specs.Prelude.{◌≡◌, ◌↔◌, IsTrue};
 ghost use Rattle.std.specs.Ordering.{nat_cmp};
 ghost use Rattle.std.specs.FinMap.{find};
 ghost use Rattle.volume_inside.specs.Typed.{Typed};
-ghost use Rattle.volume_inside.specs.Rules.{IsVolumeRecord, AreSettings, IsResultRecord, FileHolds, ExtentHolds, next_id_of};
+ghost use Rattle.volume_inside.specs.Rules.{IsVolumeRecord, AreSettings, are_lawful_texts, IsResultRecord, FileHolds, ExtentHolds, next_id_of};
 
 use crate::layout::is_data_cluster;
 use plain_volume::limits::MOST_BYTES_OF_A_FILE;
-use table_records::{Extent, FileRecord, ResultRecord, Settings, VolumeRecord};
+use plain_volume::text_is_lawful;
+use table_records::{Extent, FileRecord, ResultRecord, Settings, Texts, VolumeRecord};
 
 /// Whether the record of the volume has a version that is known, and a next id that may be drawn.
 pub fn volume_record_holds(volume: VolumeRecord) -> bool
@@ -16,12 +17,26 @@ pub fn volume_record_holds(volume: VolumeRecord) -> bool
     volume.version == 1 && volume.next_id >= 1 && volume.next_id <= 0xffff_ffff_ffff
 }
 
-/// Whether settings are in their ranges.
+/// Whether settings are in their ranges, and their texts lawful.
 pub fn settings_hold(settings: &Settings) -> bool
     ensures { IsTrue result ↔ AreSettings settings.now }
 {
     let size = settings.minimum_size >= 32_768 && settings.minimum_size <= 1_073_741_824;
-    size && settings.age_days <= 36_500 && settings.threshold >= 2
+    let in_range = size && settings.age_days <= 36_500 && settings.threshold >= 2;
+    in_range && texts_hold(&settings.folders) && texts_hold(&settings.types)
+}
+
+/// Whether each text has at least one byte, and only bytes that a name may have.
+#[tactic(auto, using(std::proofs::lemmas::List::Folds::list_all_more, std::proofs::lemmas::List::Folds::list_all_at))]
+fn texts_hold(texts: &Texts) -> bool
+    ensures { result ≡ are_lawful_texts texts.now }
+{
+    for place in 0..texts.count() {
+        if !text_is_lawful(texts.at(place)) {
+            return false;
+        }
+    }
+    true
 }
 
 /// Whether the number of a result is known.

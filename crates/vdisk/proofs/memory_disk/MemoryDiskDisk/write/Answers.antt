@@ -3,7 +3,7 @@ use Rattle.std.proofs.lemmas.List.{take_all}
 use Rattle.vdisk.specs.Disk.{ChangedWithin}
 use Rattle.vdisk.specs.Past.{put}
 use Rattle.vdisk.proofs.Past.{ends_same, part_changes, wrote_ends, wrote_on, wrote_crash, wrote_any, wrote_synced}
-use Rattle.vdisk.proofs.Still.{counted_cause, unchanged, still_on, still_changed, still_changes, still_synced}
+use Rattle.vdisk.proofs.Still.{counted_cause, unchanged, left_still, still_on, still_changed, still_changes, still_synced}
 use Rattle.vdisk.proofs.memory_disk.MemoryDiskDisk.write.Goals as goal
 
 pub invariant_of-self-in-Ok-clause-ends_before_now : goal.invariant_of-self-in-Ok-clause-ends_before_now
@@ -53,6 +53,7 @@ returns-then-self c =
       half = λ next. inr refl;
       memory = λ miss. refl;
       any_bytes = tt;
+      torn = inr (λ d left. left);
     }
 
 pub returns-in-Ok : goal.returns-in-Ok
@@ -91,6 +92,7 @@ returns-in-Ok c =
           (kept.ensures.half c.if-fails.true));
       memory = λ miss. absurd (miss (c.next_fails-fails.ensures.fails.0 c.if-fails.true));
       any_bytes = tt;
+      torn = inl (wrote_any c.args.at n m.moment x y was.0 old new c.requires change was.1 was.2);
     }
 
 pub returns-in-Ok-2 : goal.returns-in-Ok-2
@@ -130,6 +132,7 @@ returns-in-Ok-2 c =
           let clash : false ≡ true = sym c.if-fails.false ∙ c.next_fails-fails.ensures.fails.1 next in cc;
       memory = λ miss. tt;
       any_bytes = wrote_any c.args.at n m.moment x y was.0 old new c.requires change was.1 was.2;
+      torn = tt;
     }
 
 pub returns-in-Err : goal.returns-in-Err
@@ -162,4 +165,5 @@ returns-in-Err c =
       half = λ next. inr s.err;
       memory = λ miss. s.err;
       any_bytes = tt;
+      torn = inr (left_still x y old new s.err s.err_events);
     }
