@@ -1,7 +1,8 @@
 //! The map.
 
-ghost use Rattle.std.specs.Prelude.{◌≡◌, [], length, T, option_map, OnOk, OnErr, IsOk, IfOk, ◌+◌, ◌<◌, ◌^◌, Some};
+ghost use Rattle.std.specs.Prelude.{◌≡◌, [], ◌∷◌, ◌++◌, length, T, option_map, OnOk, OnErr, IsOk, IfOk, ◌+◌, ◌<◌, ◌≤◌, ◌^◌, Some};
 ghost use Rattle.std.specs.FinMap.Entries.{find, put, is_sorted};
+ghost use Rattle.byte_map.specs.Blocks.{joined, before, rest, block_of, value_at, with_value, AllFilled, IsPlace};
 ghost use Rattle.byte_map.specs.Words.{bytes_cmp, bytes_in, first_of, next_in, without};
 
 use crate::block::Block;
@@ -112,16 +113,12 @@ impl ByteMap {
     {
         match search(&self.blocks, key) {
             Ok(place) => {
-                let before = self.blocks[place.block].at(place.index).value().len() as u64;
-                let size = sum_of(self.size - before, value.len())?;
-                set_value(&mut self.blocks, self.alloc, place, value)?;
+                let size = change(&mut self.blocks, self.alloc, self.size, place, value)?;
                 self.size = size;
             }
             Err(place) => {
-                let size = sum_of(sum_of(self.size, key.len())?, value.len())?;
                 let pairs = one_more(self.pairs)?;
-                let pair = Pair::new(self.alloc, key, value)?;
-                insert(&mut self.blocks, self.alloc, place, pair)?;
+                let size = add(&mut self.blocks, self.alloc, self.size, place, key, value)?;
                 self.pairs = pairs;
                 self.size = size;
             }
@@ -137,6 +134,55 @@ impl ByteMap {
         self.pairs -= dropped.count;
         self.size -= dropped.bytes;
     }
+}
+
+// Gives the pair at a place another value, and answers how many bytes there are then.
+fn change(
+    blocks: &mut Vec<Block>,
+    alloc: Global,
+    size: u64,
+    place: Place,
+    value: &[u8],
+) -> Result<u64, AllocError>
+    requires block { place.block < length blocks.old.items }
+    requires index { place.index < length (block_of blocks.old.items place.block) }
+    requires filled { AllFilled blocks.old.items }
+    requires counted { length (value_at blocks.old.items place.block place.index) ≤ size }
+    ensures ok { OnOk result (joined blocks.new.items
+        ≡ with_value blocks.old.items place.block place.index value.now) }
+    ensures size { IfOk result (λ sum.
+        sum + length (value_at blocks.old.items place.block place.index) ≡ size + length value.now) }
+    ensures err { OnErr result (joined blocks.new.items ≡ joined blocks.old.items) }
+    ensures filled { AllFilled blocks.new.items }
+    ensures in_place { length value.now ≡ length (value_at blocks.old.items place.block place.index) → IsOk result }
+{
+    let replaced = blocks[place.block].at(place.index).value().len() as u64;
+    let sum = sum_of(size - replaced, value.len())?;
+    set_value(blocks, alloc, place, value)?;
+    Ok(sum)
+}
+
+// Puts a new pair where it goes, and answers how many bytes there are then.
+fn add(
+    blocks: &mut Vec<Block>,
+    alloc: Global,
+    size: u64,
+    place: Place,
+    key: &[u8],
+    value: &[u8],
+) -> Result<u64, AllocError>
+    requires place { IsPlace blocks.old.items place.block place.index }
+    requires filled { AllFilled blocks.old.items }
+    ensures ok { OnOk result (joined blocks.new.items ≡ before blocks.old.items place.block place.index
+        ++ (key.now, value.now) ∷ rest blocks.old.items place.block place.index) }
+    ensures size { IfOk result (λ sum. sum ≡ size + length key.now + length value.now) }
+    ensures err { OnErr result (joined blocks.new.items ≡ joined blocks.old.items) }
+    ensures filled { AllFilled blocks.new.items }
+{
+    let sum = sum_of(sum_of(size, key.len())?, value.len())?;
+    let pair = Pair::new(alloc, key, value)?;
+    insert(blocks, alloc, place, pair)?;
+    Ok(sum)
 }
 
 // An error where the sum is 2^64 or more.

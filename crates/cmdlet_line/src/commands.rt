@@ -5,28 +5,28 @@ ghost use Rattle.cmdlet_line.specs.Lines.{Gives, Kind, Makes, Number, Parameter,
 
 use crate::limits::MOST_COUNT;
 use crate::lines::{Line, LineFault};
-use crate::spelling::{first_word, is_cmdlet, number};
+use crate::spelling::{first_word, is_cmdlet, is_word, number};
 
 /// What a command's word and the bytes behind it ask.
 #[tactic(auto, unfolding(crate::specs::Lines::commands))]
 pub(crate) fn command<'a>(word: &'a [u8], rest: &'a [u8]) -> Result<Line<'a>, LineFault<'a>>
     ensures { Gives ask_of result (command_of commands word.now (words_of rest.now)) }
 {
-    if word == b"create".as_slice() {
+    if is_word(word, "create") {
         create(rest)
-    } else if word == b"write".as_slice() {
+    } else if is_word(word, "write") {
         write(rest)
-    } else if word == b"read".as_slice() {
+    } else if is_word(word, "read") {
         read(rest)
-    } else if word == b"fill".as_slice() {
+    } else if is_word(word, "fill") {
         fill(rest)
-    } else if word == b"length".as_slice() {
+    } else if is_word(word, "length") {
         length(rest)
-    } else if word == b"rename".as_slice() {
+    } else if is_word(word, "rename") {
         rename(rest)
-    } else if word == b"delete".as_slice() {
+    } else if is_word(word, "delete") {
         delete(rest)
-    } else if word == b"digest".as_slice() {
+    } else if is_word(word, "digest") {
         digest(rest)
     } else {
         volume_command(word, rest)
@@ -38,15 +38,15 @@ pub(crate) fn command<'a>(word: &'a [u8], rest: &'a [u8]) -> Result<Line<'a>, Li
 fn volume_command<'a>(word: &'a [u8], rest: &'a [u8]) -> Result<Line<'a>, LineFault<'a>>
     ensures { Gives ask_of result (command_of volume_commands word.now (words_of rest.now)) }
 {
-    if word == b"stat".as_slice() {
+    if is_word(word, "stat") {
         stat(rest)
-    } else if word == b"list".as_slice() {
+    } else if is_word(word, "list") {
         alone(rest, Line::List)
-    } else if word == b"flush".as_slice() {
+    } else if is_word(word, "flush") {
         alone(rest, Line::Flush)
-    } else if word == b"exit".as_slice() {
+    } else if is_word(word, "exit") {
         alone(rest, Line::Exit)
-    } else if word == b"turn".as_slice() || word == b"load".as_slice() {
+    } else if is_word(word, "turn") || is_word(word, "load") {
         Err(LineFault::NotBuilt(word))
     } else {
         volume_cmdlet(word, rest)
@@ -96,21 +96,28 @@ fn job_cmdlet<'a>(word: &'a [u8], rest: &'a [u8]) -> Result<Line<'a>, LineFault<
 fn create(rest: &[u8]) -> Result<Line<'_>, LineFault<'_>>
     ensures { Gives ask_of result (in_order (name_parameter ∷ []) Create (words_of rest.now)) }
 {
-    Ok(Line::Create(name(rest)?))
+    match name(rest) {
+        Ok(name) => Ok(Line::Create(name)),
+        Err(fault) => Err(fault),
+    }
 }
 
 fn write(rest: &[u8]) -> Result<Line<'_>, LineFault<'_>>
     ensures { Gives ask_of result (in_order range_parameters Write (words_of rest.now)) }
 {
-    let (name, at, count) = range(rest)?;
-    Ok(Line::Write(name, at, count))
+    match range(rest) {
+        Ok((name, at, count)) => Ok(Line::Write(name, at, count)),
+        Err(fault) => Err(fault),
+    }
 }
 
 fn read(rest: &[u8]) -> Result<Line<'_>, LineFault<'_>>
     ensures { Gives ask_of result (in_order range_parameters Read (words_of rest.now)) }
 {
-    let (name, at, count) = range(rest)?;
-    Ok(Line::Read(name, at, count))
+    match range(rest) {
+        Ok((name, at, count)) => Ok(Line::Read(name, at, count)),
+        Err(fault) => Err(fault),
+    }
 }
 
 fn fill(rest: &[u8]) -> Result<Line<'_>, LineFault<'_>>
@@ -153,19 +160,28 @@ fn rename(rest: &[u8]) -> Result<Line<'_>, LineFault<'_>>
 fn delete(rest: &[u8]) -> Result<Line<'_>, LineFault<'_>>
     ensures { Gives ask_of result (in_order (name_parameter ∷ []) Delete (words_of rest.now)) }
 {
-    Ok(Line::Delete(name(rest)?))
+    match name(rest) {
+        Ok(name) => Ok(Line::Delete(name)),
+        Err(fault) => Err(fault),
+    }
 }
 
 fn digest(rest: &[u8]) -> Result<Line<'_>, LineFault<'_>>
     ensures { Gives ask_of result (in_order (name_parameter ∷ []) Digest (words_of rest.now)) }
 {
-    Ok(Line::Digest(name(rest)?))
+    match name(rest) {
+        Ok(name) => Ok(Line::Digest(name)),
+        Err(fault) => Err(fault),
+    }
 }
 
 fn stat(rest: &[u8]) -> Result<Line<'_>, LineFault<'_>>
     ensures { Gives ask_of result (in_order (name_parameter ∷ []) Stat (words_of rest.now)) }
 {
-    Ok(Line::Stat(name(rest)?))
+    match name(rest) {
+        Ok(name) => Ok(Line::Stat(name)),
+        Err(fault) => Err(fault),
+    }
 }
 
 /// What a command without parameters asks.
@@ -231,8 +247,10 @@ fn number_in<'a>(
         (field (record { title = title.now; kind = Number least most }) (words_of rest.now)) }
 {
     let (word, rest) = text(rest, title)?;
-    let value = number(word, least, most).ok_or(LineFault::BadValue(title))?;
-    Ok((value, rest))
+    match number(word, least, most) {
+        Some(value) => Ok((value, rest)),
+        None => Err(LineFault::BadValue(title)),
+    }
 }
 
 /// No word is left.

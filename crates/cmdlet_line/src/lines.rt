@@ -2,7 +2,7 @@
 
 /// What a line asks. Names are slices of the line, of any bytes but spaces: whether a name is
 /// lawful is for the volume to say.
-#[derive(Clone, Copy, Debug, PartialEq)]
+#[derive(Clone, Copy)]
 pub enum Line<'a> {
     /// Nothing: the line is empty, has spaces only, or is a remark.
     Silent,
@@ -33,7 +33,7 @@ pub enum Line<'a> {
 }
 
 /// Why a line is refused. A slice is the word at fault, a text the name of its parameter.
-#[derive(Clone, Copy, Debug, PartialEq)]
+#[derive(Clone, Copy)]
 pub enum LineFault<'a> {
     /// The line has more than `MOST_LINE` bytes.
     LineTooLong,

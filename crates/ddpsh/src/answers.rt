@@ -1,5 +1,5 @@
 // The texts of answers.
-ghost use Rattle.std.specs.Prelude.{◌≡◌, ◌++◌, ◌∷◌, [], ◌≤◌, ◌+◌, ℕ, List, Some, length, take, vec_len, IfOk, OnErr, IsErrOf, codes};
+ghost use Rattle.std.specs.Prelude.{◌≡◌, ◌++◌, ◌∷◌, [], ◌≤◌, ◌+◌, ℕ, List, Some, length, take, vec_len, IfOk, OnOk, OnErr, IsErrOf, codes, decimal};
 ghost use Rattle.hex.specs.Hex.{encode_lower};
 ghost use Rattle.cmdlet_line.specs.Lines.{refusal_of};
 ghost use Rattle.ddpsh.specs.Answers.{Answer, Nothing, Accepted, Refused, number, said_fault, refusal_text};
@@ -34,14 +34,60 @@ pub(crate) fn silent(text: &mut Vec<u8>) -> Answered
     Answered::Silent
 }
 
+/// Begins an answer anew, by its first word and what stands behind that.
+pub(crate) fn begin(text: &mut Vec<u8>, word: &[u8], behind: &[u8]) -> Result<(), SessionFault>
+    ensures text { OnOk result (text.new.items ≡ word.now ++ behind.now) }
+    ensures memory { OnErr result (IsErrOf result SessionFault.Memory) }
+{
+    text.clear();
+    add(text, word)?;
+    add(text, behind)
+}
+
+/// Puts bytes behind an answer that was begun.
+pub(crate) fn add(text: &mut Vec<u8>, bytes: &[u8]) -> Result<(), SessionFault>
+    ensures text { OnOk result (text.new.items ≡ text.old.items ++ bytes.now) }
+    ensures memory { OnErr result (IsErrOf result SessionFault.Memory) }
+{
+    text.extend_from_slice(bytes)?;
+    Ok(())
+}
+
+/// A number in decimal digits.
+pub(crate) fn add_decimal(text: &mut Vec<u8>, n: u64) -> Result<(), SessionFault>
+    ensures text { OnOk result (text.new.items ≡ text.old.items ++ decimal n) }
+    ensures memory { OnErr result (IsErrOf result SessionFault.Memory) }
+{
+    let mut digits = Buffer::new();
+    add(text, digits.format(n).as_bytes())
+}
+
+/// A space and the number behind it.
+pub(crate) fn add_number(text: &mut Vec<u8>, n: u64) -> Result<(), SessionFault>
+    ensures text { OnOk result (text.new.items ≡ text.old.items ++ number n) }
+    ensures memory { OnErr result (IsErrOf result SessionFault.Memory) }
+{
+    add(text, b" ")?;
+    add_decimal(text, n)
+}
+
+/// Ends an answer of this kind by its newline.
+pub(crate) fn end(text: &mut Vec<u8>, kind: Answered) -> Result<Answered, SessionFault>
+    ensures text { IfOk result (λ a. text.new.items ≡ text.old.items ++ 10 ∷ []) }
+    ensures kind { IfOk result (λ a. a ≡ kind) }
+    ensures memory { OnErr result (IsErrOf result SessionFault.Memory) }
+{
+    add(text, b"\n")?;
+    Ok(kind)
+}
+
 /// The answer `ok` with nothing behind it.
 pub(crate) fn accepted(text: &mut Vec<u8>) -> Result<Answered, SessionFault>
     ensures said { IfOk result (λ a. IsSaid a text.new.items (Accepted [])) }
     ensures memory { OnErr result (IsErrOf result SessionFault.Memory) }
 {
-    text.clear();
-    text.extend_from_slice(b"ok\n")?;
-    Ok(Answered::Ok)
+    begin(text, b"ok", b"")?;
+    end(text, Answered::Ok)
 }
 
 /// The answer `ok` with a number behind it.
@@ -49,12 +95,9 @@ pub(crate) fn accepted_number(text: &mut Vec<u8>, n: u64) -> Result<Answered, Se
     ensures said { IfOk result (λ a. IsSaid a text.new.items (Accepted (number n))) }
     ensures memory { OnErr result (IsErrOf result SessionFault.Memory) }
 {
-    let mut digits = Buffer::new();
-    text.clear();
-    text.extend_from_slice(b"ok ")?;
-    text.extend_from_slice(digits.format(n).as_bytes())?;
-    text.extend_from_slice(b"\n")?;
-    Ok(Answered::Ok)
+    begin(text, b"ok", b"")?;
+    add_number(text, n)?;
+    end(text, Answered::Ok)
 }
 
 /// The answer `ok` with a digest behind it, in hexadecimal digits.
@@ -67,11 +110,8 @@ pub(crate) fn accepted_digest(
 {
     let mut digits = [0; 64];
     encode_to_slice(digest.as_slice(), &mut digits).unwrap();
-    text.clear();
-    text.extend_from_slice(b"ok ")?;
-    text.extend_from_slice(&digits)?;
-    text.extend_from_slice(b"\n")?;
-    Ok(Answered::Ok)
+    begin(text, b"ok ", &digits)?;
+    end(text, Answered::Ok)
 }
 
 /// The answer `refused` with this behind it.
@@ -83,26 +123,18 @@ pub(crate) fn refused(
     ensures said { IfOk result (λ a. IsSaid a text.new.items (Refused (name.now ++ word.now))) }
     ensures memory { OnErr result (IsErrOf result SessionFault.Memory) }
 {
-    text.clear();
-    text.extend_from_slice(b"refused")?;
-    text.extend_from_slice(name)?;
-    text.extend_from_slice(word)?;
-    text.extend_from_slice(b"\n")?;
-    Ok(Answered::Refused)
+    begin(text, b"refused", name)?;
+    add(text, word)?;
+    end(text, Answered::Refused)
 }
 
 fn refused_number(text: &mut Vec<u8>, name: &[u8], n: u64) -> Result<Answered, SessionFault>
     ensures said { IfOk result (λ a. IsSaid a text.new.items (Refused (name.now ++ number n))) }
     ensures memory { OnErr result (IsErrOf result SessionFault.Memory) }
 {
-    let mut digits = Buffer::new();
-    text.clear();
-    text.extend_from_slice(b"refused")?;
-    text.extend_from_slice(name)?;
-    text.extend_from_slice(b" ")?;
-    text.extend_from_slice(digits.format(n).as_bytes())?;
-    text.extend_from_slice(b"\n")?;
-    Ok(Answered::Refused)
+    begin(text, b"refused", name)?;
+    add_number(text, n)?;
+    end(text, Answered::Refused)
 }
 
 fn refused_numbers(
@@ -115,16 +147,10 @@ fn refused_numbers(
         IsSaid a text.new.items (Refused (name.now ++ (number first ++ number second)))) }
     ensures memory { OnErr result (IsErrOf result SessionFault.Memory) }
 {
-    let mut digits = Buffer::new();
-    text.clear();
-    text.extend_from_slice(b"refused")?;
-    text.extend_from_slice(name)?;
-    text.extend_from_slice(b" ")?;
-    text.extend_from_slice(digits.format(first).as_bytes())?;
-    text.extend_from_slice(b" ")?;
-    text.extend_from_slice(digits.format(second).as_bytes())?;
-    text.extend_from_slice(b"\n")?;
-    Ok(Answered::Refused)
+    begin(text, b"refused", name)?;
+    add_number(text, first)?;
+    add_number(text, second)?;
+    end(text, Answered::Refused)
 }
 
 /// The answer to a refused call. A fault of the device and want of memory have none: the run ends there.
@@ -150,31 +176,45 @@ pub(crate) fn refused_call(text: &mut Vec<u8>, fault: Fault) -> Result<Answered,
     }
 }
 
+/// What stands behind `refused` for a line: the refusal's name, and the word or title at fault.
+fn refusal_text<'a>(fault: LineFault<'a>) -> (&'static [u8], &'a [u8])
+    ensures { result.0.now ++ result.1.now ≡ refusal_text (refusal_of fault.entry) }
+{
+    match fault {
+        LineFault::LineTooLong => (b" LineTooLong 4096", b""),
+        LineFault::BadQuote => (b" BadQuote", b""),
+        LineFault::UnknownCommand(word) => (b" UnknownCommand ", word),
+        LineFault::NotBuilt(word) => (b" NotBuilt ", word),
+        LineFault::UnknownParameter(word) => (b" UnknownParameter ", word),
+        LineFault::LeftOut(title) => (b" LeftOut ", title.as_bytes()),
+        LineFault::RepeatedParameter(title) => (b" RepeatedParameter ", title.as_bytes()),
+        LineFault::MissingValue(title) => (b" MissingValue ", title.as_bytes()),
+        LineFault::BadValue(title) => (b" BadValue ", title.as_bytes()),
+        LineFault::MissingParameter(title) => (b" MissingParameter ", title.as_bytes()),
+    }
+}
+
 /// The answer to a line that is refused by its form.
 pub(crate) fn refused_line(text: &mut Vec<u8>, fault: LineFault) -> Result<Answered, SessionFault>
     ensures said { IfOk result (λ a. IsSaid a text.new.items (Refused (refusal_text (refusal_of fault.entry)))) }
     ensures memory { OnErr result (IsErrOf result SessionFault.Memory) }
 {
-    match fault {
-        LineFault::LineTooLong => refused(text, b" LineTooLong 4096", b""),
-        LineFault::BadQuote => refused(text, b" BadQuote", b""),
-        LineFault::UnknownCommand(word) => refused(text, b" UnknownCommand ", word),
-        LineFault::NotBuilt(word) => refused(text, b" NotBuilt ", word),
-        LineFault::UnknownParameter(word) => refused(text, b" UnknownParameter ", word),
-        LineFault::LeftOut(title) => refused(text, b" LeftOut ", title.as_bytes()),
-        LineFault::RepeatedParameter(title) => refused(
-            text,
-            b" RepeatedParameter ",
-            title.as_bytes(),
-        ),
-        LineFault::MissingValue(title) => refused(text, b" MissingValue ", title.as_bytes()),
-        LineFault::BadValue(title) => refused(text, b" BadValue ", title.as_bytes()),
-        LineFault::MissingParameter(title) => refused(
-            text,
-            b" MissingParameter ",
-            title.as_bytes(),
-        ),
-    }
+    let (name, word) = refusal_text(fault);
+    refused(text, name, word)
+}
+
+/// Room for so many bytes behind a text; answers where they begin.
+fn make_room(text: &mut Vec<u8>, count: u64) -> Result<usize, SessionFault>
+    ensures head { IfOk result (λ place. take place text.new.items ≡ text.old.items) }
+    ensures room { IfOk result (λ place. place + count ≡ vec_len text.new) }
+    ensures memory { OnErr result (IsErrOf result SessionFault.Memory) }
+{
+    let place = text.len();
+    let whole = place
+        .checked_add(count as usize)
+        .ok_or(SessionFault::Memory)?;
+    text.resize(whole, 0)?;
+    Ok(place)
 }
 
 /// The head of the answer to a read, and room for its bytes behind it; answers where they begin.
@@ -183,17 +223,8 @@ pub(crate) fn read_room(text: &mut Vec<u8>, count: u64) -> Result<usize, Session
     ensures room { IfOk result (λ place. place + count ≡ vec_len text.new) }
     ensures memory { OnErr result (IsErrOf result SessionFault.Memory) }
 {
-    let mut digits = Buffer::new();
-    text.clear();
-    text.extend_from_slice(b"ok ")?;
-    text.extend_from_slice(digits.format(count).as_bytes())?;
-    text.extend_from_slice(b"\n")?;
-    let place = text.len();
-    let whole = place
-        .checked_add(count as usize)
-        .ok_or(SessionFault::Memory)?;
-    text.resize(whole, 0)?;
-    Ok(place)
+    accepted_number(text, count)?;
+    make_room(text, count)
 }
 
 /// The answer where no volume was opened.

@@ -1,5 +1,5 @@
 // One line with what stands behind it, served by a volume.
-ghost use Rattle.std.specs.Prelude.{◌≡◌, ◌++◌, ◌∷◌, [], false, Some, Ok, replicate, IfOk, OnOk, OnErr, IsErrOf};
+ghost use Rattle.std.specs.Prelude.{◌≡◌, false, Some, Ok, replicate, IfOk, OnOk, OnErr, IsErrOf};
 ghost use Rattle.cmdlet_line.specs.Lines.{Create, Write, Read, Fill, Length, Rename, Delete, Digest, Stat, Flush, Exit, ask_of};
 ghost use Rattle.plain_volume.specs.Replies.{done_reply};
 ghost use Rattle.ddpsh.specs.Script.{item_of, with_payload, Bare, Paid};
@@ -10,7 +10,7 @@ ghost use Rattle.volume_core.specs.Volumes.{stopped, IsKept};
 ghost use Rattle.ddpsh.specs.Served.{Attempts, IsSteady, asked_as};
 
 use crate::answers::{
-    Answered, accepted, accepted_digest, accepted_number, read_room, refused, refused_call,
+    Answered, accepted, accepted_digest, accepted_number, end, read_room, refused, refused_call,
     refused_line, silent,
 };
 use crate::listing::list;
@@ -23,7 +23,7 @@ use vdisk::Disk;
 use volume_core::Volume;
 
 /// How many calls a line has made, and the kind of its answer, or why it has none.
-#[derive(Clone, Copy, Debug)]
+#[derive(Clone, Copy)]
 pub(crate) struct Attempt {
     pub(crate) made: u64,
     pub(crate) ended: Result<Answered, SessionFault>,
@@ -41,16 +41,6 @@ fn uncalled(ended: Result<Answered, SessionFault>) -> Attempt
     ensures { result ≡ record { made = 0; ended = ended } }
 {
     Attempt { made: 0, ended }
-}
-
-/// The end of the answer to a read: a newline behind its bytes.
-fn ended(text: &mut Vec<u8>) -> Result<Answered, SessionFault>
-    ensures text { IfOk result (λ a. text.new.items ≡ text.old.items ++ 10 ∷ []) }
-    ensures ok { IfOk result (λ a. a ≡ Answered.Ok) }
-    ensures memory { OnErr result (IsErrOf result SessionFault.Memory) }
-{
-    text.extend_from_slice(b"\n")?;
-    Ok(Answered::Ok)
 }
 
 /// The answer to a call that has nothing to tell but its refusal.
@@ -139,7 +129,7 @@ fn read<D: Disk>(
         Err(fault) => return uncalled(Err(fault)),
     };
     match volume.read_into(name, at, &mut text[place..]) {
-        Ok(()) => called(ended(text)),
+        Ok(()) => called(end(text, Answered::Ok)),
         Err(fault) => called(refused_call(text, fault)),
     }
 }

@@ -5,7 +5,7 @@ ghost use Rattle.ddpsh.specs.Outcomes.{status_of};
 use volume_tables::MountFault;
 
 /// How a run ends.
-#[derive(Clone, Copy, Debug, PartialEq, Eq)]
+#[derive(Clone, Copy)]
 pub(crate) enum End {
     /// The script was read to its end, and the volume was let go.
     Over,
@@ -28,7 +28,7 @@ pub(crate) enum End {
 }
 
 /// A run that has ended: whether some line was refused, and how many answers were written whole.
-#[derive(Clone, Copy, Debug)]
+#[derive(Clone, Copy)]
 pub(crate) struct Ran {
     pub(crate) end: End,
     pub(crate) refused: bool,

@@ -8,10 +8,9 @@ ghost use Rattle.ddpsh.specs.Saying.{IsSaid};
 ghost use Rattle.volume_core.specs.Volumes.{stopped};
 ghost use Rattle.ddpsh.specs.Served.{Attempts, IsSteady};
 
-use crate::answers::Answered;
+use crate::answers::{Answered, add, add_decimal, add_number, begin, end};
 use crate::calls::Attempt;
 use crate::stops::SessionFault;
-use itoa::Buffer;
 use plain_volume::Name;
 use plain_volume::limits::MOST_FILES;
 use std::alloc::Global;
@@ -32,12 +31,10 @@ fn bytes_in(name: &Option<Name>) -> Option<&[u8]>
 fn add_line(text: &mut Vec<u8>, size: u64, name: &[u8]) -> Result<(), SessionFault>
     ensures { OnOk result (text.new.items ≡ text.old.items ++ file_line size name.now) }
 {
-    let mut digits = Buffer::new();
-    text.extend_from_slice(b"\n")?;
-    text.extend_from_slice(digits.format(size).as_bytes())?;
-    text.extend_from_slice(b" ")?;
-    text.extend_from_slice(name)?;
-    Ok(())
+    add(text, b"\n")?;
+    add_decimal(text, size)?;
+    add(text, b" ")?;
+    add(text, name)
 }
 
 /// The answer `ok` with the number of files and their lines behind it.
@@ -45,14 +42,13 @@ fn accepted_lines(text: &mut Vec<u8>, alloc: Global, count: u64) -> Result<Answe
     ensures said { IfOk result (λ a. IsSaid a text.new.items (Accepted (number count ++ text.old.items))) }
     ensures memory { OnErr result (IsErrOf result SessionFault.Memory) }
 {
-    let mut digits = Buffer::new();
     let mut whole = Vec::new(alloc);
-    whole.extend_from_slice(b"ok ")?;
-    whole.extend_from_slice(digits.format(count).as_bytes())?;
-    whole.extend_from_slice(text)?;
-    whole.extend_from_slice(b"\n")?;
+    begin(&mut whole, b"ok", b"")?;
+    add_number(&mut whole, count)?;
+    add(&mut whole, text)?;
+    let answered = end(&mut whole, Answered::Ok)?;
     *text = whole;
-    Ok(Answered::Ok)
+    Ok(answered)
 }
 
 /// A list for which memory was wanting.

@@ -33,10 +33,10 @@ returns-in-Ok-read_into-clause-told g c w kept =
       adds = c.read_into.ensures.adds;
     } in
     rw c.called.ensures
-    (comes_call (Bare (Read c.args.name.now c.args.at c.args.count)) (call.Read c.args.name.now c.args.at c.args.count) _ _ _ _ c.ended.result
+    (comes_call (Bare (Read c.args.name.now c.args.at c.args.count)) (call.Read c.args.name.now c.args.at c.args.count) _ _ _ _ c.end.result
     (called_as c.args.name.now c.args.at _ c.args.count _ _ _ size did)
     (fits_once (Bare (Read c.args.name.now c.args.at c.args.count)) (call.Read c.args.name.now c.args.at c.args.count) (λ v w calls answer h. h) (λ v calls h. h) refl) (λ answer says h. absurd (false≢true h))
-    (ended_said c.ended.result _ _ out refl c.ended.ensures.text c.ended.ensures.ok
+    (ended_said c.end.result _ _ out refl c.end.ensures.text c.end.ensures.kind
     (ap (λ xs. xs ++ 10 ∷ []) (with_items_is c.read_room.new.text (put_mid place (length d - place) d out) (put_size d out place c.args.count whole wide ∙ c.deref_mut.ensures.len))
     ∙ read_text d out place c.args.count head wide)))
 
