@@ -13,8 +13,6 @@ mod limits;
 mod map;
 mod pair;
 mod place;
-#[cfg(test)]
-mod tests;
 mod walk;
 
 pub use limits::BLOCK_PAIRS;

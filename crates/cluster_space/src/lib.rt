@@ -11,8 +11,6 @@ mod memory;
 mod places;
 mod space;
 mod state;
-#[cfg(test)]
-mod tests;
 
 pub use laws::{
     a_count_of_zero_means_none, each_cluster_has_a_state, the_counts_make_up_all,

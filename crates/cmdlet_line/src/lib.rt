@@ -9,8 +9,6 @@ mod parsing;
 mod program_words;
 mod quotes;
 mod spelling;
-#[cfg(test)]
-mod tests;
 
 pub use laws::{
     a_long_line_is_known_by_its_front, commands_come_before_their_words, decimals_are_read,

@@ -16,6 +16,3 @@ pub use calls::{Answer, Request, answers_are_alike, ask};
 pub use compact::CompactIndex;
 pub use ordered::OrderedIndex;
 pub use traits::{Digests, Index, LARGEST_ID, Memory};
-
-#[cfg(test)]
-mod tests;

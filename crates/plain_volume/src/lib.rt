@@ -14,8 +14,6 @@ mod names;
 mod plain_files;
 mod reference;
 mod rows;
-#[cfg(test)]
-mod tests;
 
 pub use bytes::{Bytes, Name};
 pub use call::{Call, Fault, Reply};

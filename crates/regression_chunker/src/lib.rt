@@ -15,8 +15,6 @@ mod plain;
 mod remainder;
 mod seen;
 mod tables;
-#[cfg(test)]
-mod tests;
 
 pub use cuts::Cut;
 pub use fast::next_cut;

@@ -32,7 +32,7 @@ fn scan(rest: &[u8]) -> Seen
 }
 
 /// `next_cut` by the program that the definition suggests, a place at a time. It is there to be compared
-/// with, in time and by tests.
+/// with, in time and in what it answers.
 pub fn next_cut_plain(rest: &[u8], rest_len: u64) -> Cut
     requires some { 0 < length rest.now }
     requires prefix { length rest.now ≤ rest_len }

@@ -9,8 +9,6 @@ mod entry;
 mod fault;
 pub mod laws;
 mod limits;
-#[cfg(test)]
-mod tests;
 mod walk;
 
 pub use entry::{Entry, decode_entry, encode_entry};

@@ -14,8 +14,6 @@ mod record;
 mod std_streams;
 mod streams;
 mod synced;
-#[cfg(test)]
-mod tests;
 mod writes;
 
 pub use disk::{Disk, Failed};

@@ -1,0 +1,138 @@
+// The rows of a file.
+use row_files::{Line, lines, number, push_bytes, push_line, split_word};
+use std::alloc::{AllocError, AllocFailed, Global};
+use thiserror::Error;
+
+/// What is asked, and what has to be answered, a line each.
+#[derive(Drop)]
+pub struct Row {
+    /// The line of the file that it ends with.
+    pub line: u64,
+    pub asked: Vec<u8>,
+    pub answered: Vec<u8>,
+}
+
+/// Why a file has no rows.
+#[derive(Clone, Copy, Debug, PartialEq, Eq, Error)]
+pub enum RowFault {
+    /// There was no memory.
+    #[error("no memory")]
+    Memory,
+    /// The line of this number has no mark of a row, or is spelt wrong.
+    #[error("line {0} is none of a row")]
+    BadLine(u64),
+    /// The last row has no end.
+    #[error("the last row has no end")]
+    NoEnd,
+}
+
+impl From<AllocError> for RowFault {
+    fn from(_error: AllocError) -> RowFault {
+        RowFault::Memory
+    }
+}
+
+impl<T: Drop> From<AllocFailed<T>> for RowFault {
+    fn from(_failed: AllocFailed<T>) -> RowFault {
+        RowFault::Memory
+    }
+}
+
+/// The side of a row to which a line with copies of a byte adds them.
+#[derive(Clone, Copy)]
+enum Side {
+    Asked,
+    Answered,
+}
+
+/// A row whose end has not come yet.
+#[derive(Drop)]
+struct Begun {
+    alloc: Global,
+    side: Side,
+    is_empty: bool,
+    asked: Vec<u8>,
+    answered: Vec<u8>,
+}
+
+impl Begun {
+    fn new(alloc: Global) -> Begun {
+        Begun {
+            alloc,
+            side: Side::Asked,
+            is_empty: true,
+            asked: Vec::new(alloc),
+            answered: Vec::new(alloc),
+        }
+    }
+
+    fn ask(&mut self, text: &[u8]) -> Result<(), AllocError> {
+        self.side = Side::Asked;
+        self.is_empty = false;
+        push_line(&mut self.asked, text)
+    }
+
+    fn answer(&mut self, text: &[u8]) -> Result<(), AllocError> {
+        self.side = Side::Answered;
+        self.is_empty = false;
+        push_line(&mut self.answered, text)
+    }
+
+    /// Adds copies of a byte, and answers whether the text says which and how many.
+    fn copies(&mut self, text: &[u8]) -> Result<bool, AllocError> {
+        let (count, byte) = split_word(text);
+        let mut spelt = Vec::new(self.alloc);
+        push_bytes(&mut spelt, byte)?;
+        let (Some(count), [byte]) = (number(count), spelt.as_slice()) else {
+            return Ok(false);
+        };
+        for _ in 0..count {
+            match self.side {
+                Side::Asked => self.asked.push(*byte)?,
+                Side::Answered => self.answered.push(*byte)?,
+            }
+        }
+        Ok(true)
+    }
+
+    /// The row whose last line is this one; nothing is left of it.
+    fn end(&mut self, line: Line<'_>) -> Result<Row, AllocError> {
+        self.answer(line.text)?;
+        let ended = std::mem::replace(self, Begun::new(self.alloc));
+        Ok(Row {
+            line: line.number,
+            asked: ended.asked,
+            answered: ended.answered,
+        })
+    }
+
+    /// Takes a line in that ends no row, and answers whether it may stand in one.
+    fn take_in(&mut self, line: Line<'_>) -> Result<bool, AllocError> {
+        match line.mark {
+            b'#' => {}
+            b'>' => self.ask(line.text)?,
+            b'<' => self.answer(line.text)?,
+            b'*' => return self.copies(line.text),
+            _ => return Ok(false),
+        }
+        Ok(true)
+    }
+}
+
+/// All rows of a file, in their order.
+pub fn rows(alloc: Global, file: &[u8]) -> Result<Vec<Row>, RowFault> {
+    let mut rows = Vec::new(alloc);
+    let mut begun = Begun::new(alloc);
+    for line in lines(alloc, file)? {
+        if line.mark == b'=' {
+            rows.push(begun.end(line)?)?;
+        } else if !begun.take_in(line)? {
+            return Err(RowFault::BadLine(line.number));
+        }
+    }
+    if begun.is_empty {
+        Ok(rows)
+    } else {
+        Err(RowFault::NoEnd)
+    }
+}

@@ -1,0 +1,98 @@
+// The calls of a disk.
+use asked_rows::{Answers, Asked};
+use std::alloc::Global;
+use vdisk::{Disk, Failed};
+
+/// Why a line is no question.
+pub fn no_question() -> anyhow::Error {
+    anyhow::anyhow!("no such question")
+}
+
+/// Answers a call of a disk by what it gives, or by `failed`.
+pub fn answer_call<D: Disk>(
+    alloc: Global,
+    disk: &mut D,
+    mut asked: Asked<'_>,
+    answers: &mut Answers,
+) -> anyhow::Result<()> {
+    match asked.word() {
+        b"size" => answers.number(size(disk))?,
+        b"moment" => answers.number(moment(disk))?,
+        b"sync" => done(answers, sync(disk))?,
+        b"grow" => done(answers, grow(disk, asked.number()))?,
+        b"write" => write(alloc, disk, asked, answers)?,
+        b"read" => read(alloc, disk, asked, answers)?,
+        _ => return Err(no_question()),
+    }
+    Ok(())
+}
+
+/// Says whether a call succeeded.
+pub fn done(answers: &mut Answers, outcome: Result<(), Failed>) -> anyhow::Result<()> {
+    Ok(answers.line(if outcome.is_ok() { "ok" } else { "failed" })?)
+}
+
+fn size<D: Disk>(disk: &D) -> u64 {
+    disk.size()
+}
+
+fn moment<D: Disk>(disk: &D) -> u64 {
+    disk.moment()
+}
+
+fn sync<D: Disk>(disk: &mut D) -> Result<(), Failed> {
+    disk.sync()
+}
+
+/// Grows where that makes the disk no shorter.
+fn grow<D: Disk>(disk: &mut D, to: Option<u64>) -> Result<(), Failed> {
+    match to {
+        Some(to) if disk.size() <= to => disk.grow(to),
+        _ => Err(Failed),
+    }
+}
+
+fn write<D: Disk>(
+    alloc: Global,
+    disk: &mut D,
+    mut asked: Asked<'_>,
+    answers: &mut Answers,
+) -> anyhow::Result<()> {
+    let (Some(at), Some(bytes)) = (asked.number(), asked.bytes(alloc)?) else {
+        return Err(no_question());
+    };
+    done(answers, write_in(disk, at, &bytes))
+}
+
+/// Writes where the range lies in the disk.
+fn write_in<D: Disk>(disk: &mut D, at: u64, bytes: &[u8]) -> Result<(), Failed> {
+    if at > disk.size() || bytes.len() as u64 > disk.size() - at {
+        return Err(Failed);
+    }
+    disk.write(at, bytes)
+}
+
+fn read<D: Disk>(
+    alloc: Global,
+    disk: &mut D,
+    mut asked: Asked<'_>,
+    answers: &mut Answers,
+) -> anyhow::Result<()> {
+    let (Some(at), Some(count)) = (asked.number(), asked.number()) else {
+        return Err(no_question());
+    };
+    let mut out = vec![in alloc; 1u8; usize::try_from(count)?]?;
+    match read_in(disk, at, &mut out) {
+        Ok(()) => answers.digits(&out)?,
+        Err(Failed) => answers.line("failed")?,
+    }
+    Ok(())
+}
+
+/// Reads where the range lies in the disk.
+fn read_in<D: Disk>(disk: &mut D, at: u64, out: &mut [u8]) -> Result<(), Failed> {
+    if at > disk.size() || out.len() as u64 > disk.size() - at {
+        return Err(Failed);
+    }
+    disk.read(at, out)
+}

@@ -1,0 +1,174 @@
+// The two forms of an index side by side.
+ghost use Rattle.std.specs.Prelude.{◌==◌, if◌then◌else◌, None, slice_get};
+
+use crate::numbers::{byte, no_question, number};
+use asked_rows::{Answers, Asked};
+use hash_index::{CompactIndex, Digests, Index, LARGEST_ID, OrderedIndex};
+use std::alloc::{AllocError, Global};
+
+/// The digests by their ids, of which one is forgotten.
+#[derive(Drop)]
+struct Known {
+    digests: Vec<[u8; 32]>,
+    forgotten: u64,
+}
+
+impl Digests for Known {
+    ghost digest_of = { λ s id. if id == s.forgotten then None else slice_get s.digests.items id };
+
+    fn digest_of(&self, id: u64) -> Option<[u8; 32]> {
+        if id == self.forgotten {
+            return None;
+        }
+        self.digests.get(id as usize).copied()
+    }
+}
+
+/// Both forms, with what is known.
+#[derive(Drop)]
+struct Both {
+    known: Known,
+    ordered: OrderedIndex,
+    compact: CompactIndex,
+}
+
+/// Answers the lines of a row about both forms.
+pub fn answer(alloc: Global, asked: &[u8], answers: &mut Answers) -> anyhow::Result<()> {
+    let mut both = Both {
+        known: Known {
+            digests: Vec::new(alloc),
+            forgotten: 0,
+        },
+        ordered: OrderedIndex::new(alloc),
+        compact: CompactIndex::new(alloc),
+    };
+    for line in asked.split(|byte| *byte == b'\n') {
+        if !line.is_empty() {
+            answer_line(alloc, &mut both, Asked::new(line), answers)?;
+        }
+    }
+    Ok(())
+}
+
+fn answer_line(
+    alloc: Global,
+    both: &mut Both,
+    mut asked: Asked<'_>,
+    answers: &mut Answers,
+) -> anyhow::Result<()> {
+    match asked.word() {
+        b"numbered" => both.known.digests = numbered(alloc, number(&mut asked)?)?,
+        b"alike" => both.known.digests = alike(alloc, asked)?,
+        b"forget" => both.known.forgotten = number(&mut asked)?,
+        b"insert" => insert_each(both, asked)?,
+        b"find" => answers.line(&found(alloc, both, asked)?)?,
+        b"find-each" => answers.number(found_each(both, asked)?)?,
+        b"clear" => clear(both),
+        b"held" => answers.number(both.compact.held() as u64)?,
+        b"slots-at-most" => {
+            let is_small = both.compact.slots() as u64 <= number(&mut asked)?;
+            answers.line(if is_small { "yes" } else { "no" })?;
+        }
+        _ => return Err(no_question()),
+    }
+    Ok(())
+}
+
+/// A digest of its own for each number, spread in the first eight bytes.
+fn digest_numbered(number: u64) -> [u8; 32] {
+    let spread = number.wrapping_mul(0x9e37_79b9_7f4a_7c15).to_be_bytes();
+    let mut digest = [0; 32];
+    digest[..8].copy_from_slice(&spread);
+    digest
+}
+
+fn numbered(alloc: Global, count: u64) -> Result<Vec<[u8; 32]>, AllocError> {
+    let mut digests = Vec::new(alloc);
+    for number in 0..count {
+        digests.push(digest_numbered(number))?;
+    }
+    Ok(digests)
+}
+
+/// `COUNT BYTE`: so many digests of that byte alone.
+fn alike(alloc: Global, mut asked: Asked<'_>) -> anyhow::Result<Vec<[u8; 32]>> {
+    let count = number(&mut asked)?;
+    let digest = [byte(&mut asked)?; 32];
+    let mut digests = Vec::new(alloc);
+    for _ in 0..count {
+        digests.push(digest)?;
+    }
+    Ok(digests)
+}
+
+/// `FIRST END`: inserts the ids from one up to another under their digests.
+fn insert_each(both: &mut Both, mut asked: Asked<'_>) -> anyhow::Result<()> {
+    let first = number(&mut asked)?;
+    for id in first..number(&mut asked)? {
+        let Some(digest) = both.known.digests.get(id as usize).copied() else {
+            return Err(no_question());
+        };
+        insert(&mut both.ordered, &digest, id, &both.known)?;
+        insert(&mut both.compact, &digest, id, &both.known)?;
+    }
+    Ok(())
+}
+
+fn insert<I: Index>(
+    index: &mut I,
+    digest: &[u8; 32],
+    id: u64,
+    known: &Known,
+) -> anyhow::Result<()> {
+    if id == 0 || id > LARGEST_ID {
+        return Err(no_question());
+    }
+    Ok(index.insert(digest, id, known)?)
+}
+
+fn find<I: Index>(index: &I, digest: &[u8; 32], after: u64, known: &Known) -> Option<u64> {
+    index.find(digest, after, known)
+}
+
+/// What both forms find under a digest above an id, or that they differ.
+fn found_by_both(both: &Both, digest: &[u8; 32], after: u64) -> Result<Option<u64>, ()> {
+    let found = find(&both.ordered, digest, after, &both.known);
+    if found == find(&both.compact, digest, after, &both.known) {
+        Ok(found)
+    } else {
+        Err(())
+    }
+}
+
+/// `number N AFTER` or `byte B AFTER`: what is found under the digest of a number, or of a byte alone.
+fn found(alloc: Global, both: &Both, mut asked: Asked<'_>) -> anyhow::Result<String> {
+    let digest = match asked.word() {
+        b"number" => digest_numbered(number(&mut asked)?),
+        b"byte" => [byte(&mut asked)?; 32],
+        _ => return Err(no_question()),
+    };
+    Ok(match found_by_both(both, &digest, number(&mut asked)?) {
+        Ok(Some(id)) => format!(in alloc; "{id}")?,
+        Ok(None) => format!(in alloc; "none")?,
+        Err(()) => format!(in alloc; "the two forms differ")?,
+    })
+}
+
+/// `FIRST END`: of how many ids the digest is found at that id and at none above it.
+fn found_each(both: &Both, mut asked: Asked<'_>) -> anyhow::Result<u64> {
+    let mut count = 0u64;
+    let first = number(&mut asked)?.max(1);
+    for id in first..number(&mut asked)? {
+        let digest = digest_numbered(id);
+        let is_found = found_by_both(both, &digest, id - 1) == Ok(Some(id));
+        if is_found && found_by_both(both, &digest, id) == Ok(None) {
+            count = count.saturating_add(1);
+        }
+    }
+    Ok(count)
+}
+
+fn clear(both: &mut Both) {
+    both.ordered.clear();
+    both.compact.clear();
+}

@@ -1,0 +1,50 @@
+// The prints of windows.
+use crate::numbers::{no_question, number};
+use asked_rows::{Answers, Asked};
+use regression_chunker::Print;
+use std::alloc::Global;
+
+/// Answers each line `HEX ZEROS` by the print of the window behind these bytes and so many zeros.
+pub fn answer(alloc: Global, asked: &[u8], answers: &mut Answers) -> anyhow::Result<()> {
+    for line in asked.split(|byte| *byte == b'\n') {
+        if !line.is_empty() {
+            let print = print_of(alloc, Asked::new(line))?;
+            answers.line(&format!(in alloc; "{print:x}")?)?;
+        }
+    }
+    Ok(())
+}
+
+fn print_of(alloc: Global, mut asked: Asked<'_>) -> anyhow::Result<u64> {
+    let Some(bytes) = asked.bytes(alloc)? else {
+        return Err(no_question());
+    };
+    let zeros = number(&mut asked)?;
+    let mut print = Print::new();
+    let last = push_all(&mut print, &bytes);
+    Ok(if zeros == 0 {
+        last
+    } else {
+        push_zeros(&mut print, zeros)
+    })
+}
+
+fn push(print: &mut Print, byte: u8) -> u64 {
+    print.push(byte)
+}
+
+fn push_all(print: &mut Print, bytes: &[u8]) -> u64 {
+    let mut last = 0;
+    for byte in bytes {
+        last = push(print, *byte);
+    }
+    last
+}
+
+fn push_zeros(print: &mut Print, count: u64) -> u64 {
+    let mut last = 0;
+    for _ in 0..count {
+        last = push(print, 0);
+    }
+    last
+}
