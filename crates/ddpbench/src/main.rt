@@ -22,6 +22,7 @@ mod store;
 
 use std::env;
 use std::process::ExitCode;
+use vdisk::StandardStreams;
 
 /// The largest size of `cut`, `lines` and `store`, in MiB: what one file of the volume holds.
 const MOST_MEBIBYTES: u64 = 1024;
@@ -30,6 +31,8 @@ const USAGE: &str =
     "usage: ddpbench cut|lines|store MB, or ddpbench index|journal|map|overwrite|space COUNT";
 
 fn main(rt: HostRuntime) -> anyhow::Result<ExitCode> {
+    // Taken first and kept to the end: no file of a bench gets the number of a stream that is closed.
+    let _streams = StandardStreams::hold(&rt)?;
     let mut words = env::args(&rt)?;
     let _program = words.next();
     let (Some(bench), Some(size)) = (words.next(), words.next()) else {

@@ -24,7 +24,7 @@ pub(crate) const fn usage() -> &'static [u8]
 }
 
 /// What the words ask, if they are those of the command.
-pub(crate) fn command_of(words: &Words) -> Option<Command>
+pub fn command_of(words: &Words) -> Option<Command>
     ensures some { IfSome result (λ command. Asks words.now command) }
     ensures none { IfNone result ((command : Command) → Asks words.now command → ⊥) }
 {

@@ -1,64 +1,98 @@
-//! The program `ddpsh`: makes the real disk, source, sink and clock, and runs.
+//! The program `ddpsh`: takes the standard streams, makes the real disk, source, sink and clock, and runs.
 #![tactic(auto)]
 
-ghost use Rattle.std.specs.Prelude.{◌≡◌, drop, slice_get};
-ghost use Rattle.std.specs.List.{list_any};
-ghost use Rattle.ddpsh_main.specs.Options.{is_format, is_some_format};
+ghost use Rattle.std.specs.Prelude.{ℕ, IfSome, IfNone};
+ghost use Rattle.ddpsh.specs.Commands.{Asks};
+ghost use Rattle.ddpsh.specs.declared.commands.Command.TheVariants.{Format};
 
 use cmdlet_line::Words;
-use ddpsh::run;
-use std::env;
+use ddpsh::{Command, command_of, run};
+use std::alloc::Global;
+use std::env::{self, Env};
 use std::io::{ErrorKind, writer};
 use std::process::ExitCode;
-use vdisk::{FileDisk, ReaderSource, SystemClock, WriterSink};
+use vdisk::{Cause, Disk, FileDisk, ReaderSource, StandardStreams, SystemClock, WriterSink};
+
+const CLUSTER_BYTES: u64 = 4096;
+
+/// Behind the cause that there is no such file: the first word is a path, whatever it looks like.
+const USAGE: &str = "; usage: ddpsh IMAGE [--format CLUSTERS] < SCRIPT, where IMAGE is a path";
 
 fn main(rt: HostRuntime) -> ExitCode {
-    let alloc = rt.alloc();
-    let mut words = Words::new(alloc);
-    match env::args(&rt) {
-        Ok(mut texts) => {
-            let _program = texts.next();
-            for text in texts {
-                if words.push(&text).is_err() {
-                    return ExitCode::from(4);
-                }
-            }
-        }
-        // A word that is no text is none of the command's, and neither are no words.
-        Err(error) if error.kind() == ErrorKind::InvalidData => {}
-        Err(_) => return ExitCode::from(4),
+    // Taken first and kept to the end: no file that is opened later gets the number of a stream that is closed.
+    let _streams = match StandardStreams::hold(&rt) {
+        Ok(streams) => streams,
+        Err(cause) => return end_without_streams(&rt, cause),
+    };
+    let Some(words) = words_of(&rt) else {
+        return ExitCode::from(4);
+    };
+    let image = words.at(0).unwrap_or("");
+    let clusters = fresh_clusters(&words);
+    let mut disk = FileDisk::open(&rt, image, clusters.is_some());
+    if is_replaced(clusters, disk.size()) {
+        let _ = eprintln!(rt; "ddpsh: {image}: not empty; --format replaces what it holds");
     }
-    let mut disk = FileDisk::open(&rt, words.at(0).unwrap_or(""), is_created(&words));
     let mut script = ReaderSource::new(Some(rt.reader()));
     let mut out = WriterSink::new(writer(&rt));
     let mut clock = SystemClock::new(&rt);
+    let alloc = rt.alloc();
     let outcome = run(alloc, &words, &mut script, &mut out, &mut disk, &mut clock);
+    if outcome.status == 3 {
+        if let Some(cause) = disk.cause() {
+            tell(&rt, image, cause);
+        }
+    }
     ExitCode::from(outcome.status)
 }
 
-/// Is the image made where there is none? It is where a word behind it is `--format` or begins with `--format=`.
-fn is_created(words: &Words) -> bool
-    ensures { result ≡ list_any is_format (drop 1 words.now) }
-{
-    for k in 1..words.len() {
-        if is_format_at(words, k) {
-            return true;
-        }
+/// The words behind the program's name, unless memory is wanting. A word that is no text is none of the command's, and
+/// neither are no words.
+fn words_of(rt: &(impl Env + Alloc<A = Global>)) -> Option<Words> {
+    let mut words = Words::new(rt.alloc());
+    let mut texts = match env::args(rt) {
+        Ok(texts) => texts,
+        Err(error) if error.kind() == ErrorKind::InvalidData => return Some(words),
+        Err(_) => return None,
+    };
+    let _program = texts.next();
+    for text in texts {
+        words.push(&text).ok()?;
     }
-    false
+    Some(words)
 }
 
-fn is_format_at(words: &Words, k: usize) -> bool
-    ensures { result ≡ is_some_format (slice_get words.now k) }
+/// The clusters of the fresh volume that the words ask for. The image is made where there is none only if they do.
+fn fresh_clusters(words: &Words) -> Option<u32>
+    ensures some { IfSome result (λ clusters. Asks words.now (Format clusters)) }
+    ensures none { IfNone result ((clusters : ℕ) → Asks words.now (Format clusters) → ⊥) }
 {
-    match words.at(k) {
-        Some(word) => is_format(word),
+    match command_of(words) {
+        Some(Command::Format(clusters)) => Some(clusters),
+        _ => None,
+    }
+}
+
+/// Is what an image of this size holds replaced by a fresh volume? A longer image is refused.
+fn is_replaced(clusters: Option<u32>, size: u64) -> bool {
+    match clusters {
+        Some(clusters) => 0 < size && size <= u64::from(clusters) * CLUSTER_BYTES,
         None => false,
     }
 }
 
-fn is_format(word: &str) -> bool
-    ensures { result ≡ is_format word.now }
-{
-    word == "--format" || word.as_bytes().starts_with(b"--format=")
+/// Ends the run before an image is opened.
+fn end_without_streams(rt: &(impl Print + Eprint), cause: Cause) -> ExitCode {
+    let _ = rt.println("fault device");
+    let _ = eprintln!(rt; "ddpsh: {}: {cause}", StandardStreams::STAND_IN);
+    ExitCode::from(3)
+}
+
+/// Says on standard error what the system said of the image. Where that cannot be written, nobody asks for it.
+fn tell(rt: &impl Eprint, image: &str, cause: Cause) {
+    let usage = match cause {
+        Cause::NoSuchFile => USAGE,
+        _ => "",
+    };
+    let _ = eprintln!(rt; "ddpsh: {image}: {cause}{usage}");
 }

@@ -1,6 +1,7 @@
 // A disk over a file.
 ghost use Rattle.std.specs.Prelude.{◌≡◌, ◌<◌, ◌≤◌, ◌+◌, ◌-◌, ◌^◌, ◌↔◌, ℕ, List, length, IsTrue, IsFalse, IsOk, IsErr, OnOk, OnErr};
 
+use crate::cause::Cause;
 use crate::disk::{Disk, Failed};
 use std::fs::{File, OpenFile, OpenOptions};
 use std::io;
@@ -21,6 +22,7 @@ use std::rt::Files;
 pub struct FileDisk {
     file: Option<File>,
     unsynced: Unsynced,
+    cause: Option<Cause>,
     size: u64,
     made: u64,
     faults: u64,
@@ -46,7 +48,7 @@ impl FileDisk {
 
     /// Opens the file at this path, and makes an empty one where there is none and `create` says so. It never fails:
     /// a file that could not be opened, also because another `FileDisk` has it, in this process or in another one,
-    /// gives a disk of size 0 whose every call fails.
+    /// gives a disk of size 0 whose every call fails; `cause` says why.
     pub fn open<R: Files<File = File>>(rt: &R, path: &str, create: bool) -> Self
         ensures moment { (file_state result).moment ≡ 0 }
         ensures faults { (file_state result).faults ≡ 0 }
@@ -57,15 +59,16 @@ impl FileDisk {
                 file: Some(file),
                 // Whoever made the file this long may not have synced it.
                 unsynced: Unsynced::Length,
+                cause: None,
                 size,
                 made: 0,
                 faults: 0,
             },
-            Err(_) => FileDisk::unopened(),
+            Err(error) => FileDisk::unopened(error),
         }
     }
 
-    fn unopened() -> Self
+    fn unopened(error: io::Error) -> Self
         ensures moment { result.made ≡ 0 }
         ensures faults { result.faults ≡ 0 }
         ensures size { result.size ≡ 0 }
@@ -73,10 +76,17 @@ impl FileDisk {
         FileDisk {
             file: None,
             unsynced: Unsynced::Length,
+            cause: Some(Cause::from(error)),
             size: 0,
             made: 0,
             faults: 0,
         }
+    }
+
+    /// What the system said of the first call that it refused, `open` among them. A call that was not handed to the
+    /// system, as a sync after one that failed, leaves it as it was.
+    pub fn cause(&self) -> Option<Cause> {
+        self.cause
     }
 
     // Counts a fault where the call was not done.
@@ -112,11 +122,24 @@ impl FileDisk {
 }
 
 impl Unsynced {
-    fn is_synced(self, file: &File) -> bool {
+    fn is_synced(self, file: &File, cause: &mut Option<Cause>) -> bool {
         match self {
-            Unsynced::Bytes => file.sync_data().is_ok(),
-            Unsynced::Length => file.sync_all().is_ok(),
+            Unsynced::Bytes => is_done(file.sync_data(), cause),
+            Unsynced::Length => is_done(file.sync_all(), cause),
             Unsynced::Lost => false,
+        }
+    }
+}
+
+/// Whether the system did as it was asked. The first cause why it did not is kept.
+fn is_done(answer: io::Result<()>, cause: &mut Option<Cause>) -> bool {
+    match answer {
+        Ok(()) => true,
+        Err(error) => {
+            if cause.is_none() {
+                *cause = Some(Cause::from(error));
+            }
+            false
         }
     }
 }
@@ -182,7 +205,7 @@ impl Disk for FileDisk {
         }
         let done = self.tick()
             && match &self.file {
-                Some(file) => file.set_len(to).is_ok(),
+                Some(file) => is_done(file.set_len(to), &mut self.cause),
                 None => false,
             };
         if done {
@@ -203,7 +226,7 @@ impl Disk for FileDisk {
     {
         let done = self.made < u64::MAX
             && match &self.file {
-                Some(file) => file.read_exact_at(out, at).is_ok(),
+                Some(file) => is_done(file.read_exact_at(out, at), &mut self.cause),
                 None => false,
             };
         self.answer(done)
@@ -224,7 +247,7 @@ impl Disk for FileDisk {
     {
         let done = self.tick()
             && match &self.file {
-                Some(file) => file.write_all_at(bytes, at).is_ok(),
+                Some(file) => is_done(file.write_all_at(bytes, at), &mut self.cause),
                 None => false,
             };
         self.answer(done)
@@ -243,7 +266,7 @@ impl Disk for FileDisk {
     {
         let done = self.tick()
             && match &self.file {
-                Some(file) => self.unsynced.is_synced(file),
+                Some(file) => self.unsynced.is_synced(file, &mut self.cause),
                 None => false,
             };
         self.unsynced = if done {
