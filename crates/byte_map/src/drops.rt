@@ -10,7 +10,7 @@ use crate::blocks::lower_bound;
 use crate::place::Place;
 
 /// How many pairs were dropped, and their bytes.
-#[derive(Clone, Copy, Debug, PartialEq, Eq)]
+#[derive(Clone, Copy)]
 pub struct Dropped {
     pub count: usize,
     pub bytes: u64,

@@ -1,10 +1,10 @@
-use Rattle.std.proofs.Common.{refl, inl}
+use Rattle.std.proofs.Common.{refl, inl, arith}
 use Rattle.std.proofs.lemmas.Bool.{false≢true}
 use Rattle.cmdlet_line.specs.Lines.{Delete}
 use Rattle.plain_volume.specs.Replies.{done_reply}
 use Rattle.plain_volume.specs.declared.call.Call.TheVariants as call
 use Rattle.ddpsh.specs.Script.{Bare}
-use Rattle.ddpsh.proofs.CallLaws.{Called, comes_call, fits_once}
+use Rattle.ddpsh.proofs.CallLaws.{Called, comes_call, fits_once, steady_call}
 use Rattle.ddpsh.proofs.calls.delete.Goals as goal
 
 pub returns-clause-told : goal.returns-clause-told
@@ -23,3 +23,11 @@ returns-clause-told g c w kept =
     (comes_call (Bare (Delete c.args.name.now)) (call.Delete c.args.name.now) _ _ _ _ c.done.result did
     (fits_once (Bare (Delete c.args.name.now)) (call.Delete c.args.name.now) (λ v w calls answer h. h) (λ v calls h. h) refl)
     (λ answer says h. absurd (false≢true h)) c.done.ensures.said)
+
+pub returns-clause-steady : goal.returns-clause-steady
+returns-clause-steady g c =
+    let call = c.delete-given in
+    rw c.called.ensures
+    (steady_call c.args.volume.now call.new.self 1 call.result c.done.result (omega arith) call.ensures.stops call.ensures.failed
+    c.done.ensures.device c.done.ensures.failed c.done.ensures.no_sink call.ensures.endures.later
+    (λ x h. g.met.D.Disk.same_next x _ _ h call.ensures.endures.same))

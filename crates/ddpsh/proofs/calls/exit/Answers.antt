@@ -1,8 +1,10 @@
-use Rattle.std.proofs.Common.{◌≡◌, Ok, Err, refl}
+use Rattle.std.proofs.Common.{◌≡◌, Ok, Err, refl, arith, ap}
 use Rattle.cmdlet_line.specs.Lines.{Exit}
+use Rattle.plain_volume.specs.declared.call.Fault.TheVariants as fault
 use Rattle.ddpsh.specs.Script.{Bare}
+use Rattle.ddpsh.specs.declared.answers.Answered.TheVariants as answered
 use Rattle.ddpsh.specs.Answers.{Accepted, text_of}
-use Rattle.ddpsh.proofs.CallLaws.{Flushed, broke_none, exit_done, exit_refused}
+use Rattle.ddpsh.proofs.CallLaws.{Flushed, broke_none, exit_done, exit_refused, steady_call, steady_none}
 use Rattle.ddpsh.proofs.calls.exit.Goals as goal
 
 pub returns-in-Err-clause-told : goal.returns-in-Err-clause-told
@@ -30,3 +32,23 @@ returns-in-Err-flush-clause-told g c w kept =
     } in
     rw c.uncalled-in-Err-flush.ensures
     (exit_refused c.args.volume.now c.flush.new.self c.refused_call.new.text.items c.in-Err-flush.fault c.refused_call.result did c.refused_call.ensures.said)
+
+pub returns-in-Err-clause-steady : goal.returns-in-Err-clause-steady
+returns-in-Err-clause-steady g c =
+    rw c.uncalled.ensures (steady_none c.args.volume.now (Err c.in-Err.fault) c.requires c.in-Err.ensures.memory)
+
+pub returns-in-Ok-flush-clause-steady : goal.returns-in-Ok-flush-clause-steady
+returns-in-Ok-flush-clause-steady g c =
+    rw c.uncalled-in-Ok-flush.ensures
+    (steady_call c.args.volume.now c.flush.new.self 0 (Ok tt) (Ok answered.Exit) (omega arith) c.in-Ok-flush.ensures.stops
+    c.in-Ok-flush.ensures.failed (λ h. absurd (let no : ⊥ = cc in no)) (λ h. absurd (let no : ⊥ = cc in no)) (λ h. let no : ⊥ = cc in no)
+    c.flush.ensures.endures.later (λ x h. g.met.D.Disk.same_next x _ _ h c.flush.ensures.endures.same))
+
+pub returns-in-Err-flush-clause-steady : goal.returns-in-Err-flush-clause-steady
+returns-in-Err-flush-clause-steady g c =
+    let said = c.refused_call.ensures in
+    rw c.uncalled-in-Err-flush.ensures
+    (steady_call c.args.volume.now c.flush.new.self 0 (Err c.in-Err-flush.fault) c.refused_call.result (omega arith)
+    c.in-Err-flush.ensures.stops c.in-Err-flush.ensures.failed (λ h. ap Err (said.device h))
+    (λ h. said.failed (let same : c.in-Err-flush.fault ≡ fault.Failed = cc in same)) said.no_sink
+    c.flush.ensures.endures.later (λ x h. g.met.D.Disk.same_next x _ _ h c.flush.ensures.endures.same))

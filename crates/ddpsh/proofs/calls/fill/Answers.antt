@@ -1,10 +1,11 @@
-use Rattle.std.proofs.Common.{◌∙◌, refl, replicate}
+use Rattle.std.proofs.Common.{◌∙◌, refl, replicate, ◌≡◌, arith, ap, Err}
 use Rattle.std.proofs.lemmas.Bool.{false≢true}
 use Rattle.cmdlet_line.specs.Lines.{Fill}
 use Rattle.plain_volume.specs.Replies.{done_reply}
 use Rattle.plain_volume.specs.declared.call.Call.TheVariants as call
 use Rattle.ddpsh.specs.Script.{Bare}
-use Rattle.ddpsh.proofs.CallLaws.{Called, comes_call, fits_once, broke_none, filled_as}
+use Rattle.ddpsh.specs.declared.stops.SessionFault.TheVariants as stop
+use Rattle.ddpsh.proofs.CallLaws.{Called, comes_call, fits_once, broke_none, filled_as, steady_call, steady_none}
 use Rattle.ddpsh.proofs.calls.fill.Goals as goal
 
 pub returns-in-Ok-clause-told : goal.returns-in-Ok-clause-told
@@ -33,3 +34,16 @@ pub returns-in-Err-clause-told : goal.returns-in-Err-clause-told
 returns-in-Err-clause-told g c w kept =
     rw c.uncalled.ensures
     (broke_none (Bare (Fill c.args.name.now c.args.at c.args.count c.args.byte)) c.args.volume.now)
+
+pub returns-in-Ok-clause-steady : goal.returns-in-Ok-clause-steady
+returns-in-Ok-clause-steady g c =
+    let call = c.write-given in
+    rw c.called.ensures
+    (steady_call c.args.volume.now call.new.self 1 call.result c.done.result (omega arith) call.ensures.stops call.ensures.failed
+    c.done.ensures.device c.done.ensures.failed c.done.ensures.no_sink call.ensures.endures.later
+    (λ x h. g.met.D.Disk.same_next x _ _ h call.ensures.endures.same))
+
+pub returns-in-Err-clause-steady : goal.returns-in-Err-clause-steady
+returns-in-Err-clause-steady g c =
+    let memory : c.in-Err.fault ≡ stop.Memory = cc c.in-Err.ensures.memory in
+    rw c.uncalled.ensures (steady_none c.args.volume.now (Err c.in-Err.fault) c.requires (ap Err memory))

@@ -1,9 +1,9 @@
-use Rattle.std.proofs.Common.{refl, inl}
+use Rattle.std.proofs.Common.{refl, inl, arith}
 use Rattle.cmdlet_line.specs.Lines.{Flush}
 use Rattle.plain_volume.specs.Replies.{done_reply}
 use Rattle.plain_volume.specs.declared.call.Call.TheVariants as call
 use Rattle.ddpsh.specs.Script.{Bare}
-use Rattle.ddpsh.proofs.CallLaws.{Called, Flushed, comes_call, fits_once, flush_kept}
+use Rattle.ddpsh.proofs.CallLaws.{Called, Flushed, comes_call, fits_once, flush_kept, steady_call}
 use Rattle.ddpsh.proofs.calls.flush.Goals as goal
 
 pub returns-clause-told : goal.returns-clause-told
@@ -27,3 +27,11 @@ returns-clause-told g c w kept =
     rw c.called.ensures
     (comes_call (Bare Flush) call.Flush _ _ _ _ c.done.result did (fits_once (Bare Flush) call.Flush (λ v w calls answer h. h) (λ v calls h. h) refl)
     (λ answer says h. flush_kept c.args.volume.now c.flush-given.new.self c.flush-given.result answer says h flushed) c.done.ensures.said)
+
+pub returns-clause-steady : goal.returns-clause-steady
+returns-clause-steady g c =
+    let call = c.flush-given in
+    rw c.called.ensures
+    (steady_call c.args.volume.now call.new.self 1 call.result c.done.result (omega arith) call.ensures.stops call.ensures.failed
+    c.done.ensures.device c.done.ensures.failed c.done.ensures.no_sink call.ensures.endures.later
+    (λ x h. g.met.D.Disk.same_next x _ _ h call.ensures.endures.same))

@@ -3,7 +3,7 @@ use Rattle.cmdlet_line.specs.Lines.{Write}
 use Rattle.ddpsh.specs.Script.{Item, Cut, Spoilt}
 use Rattle.ddpsh.specs.Answers.{Refused}
 use Rattle.ddpsh.specs.Served.{Attempts}
-use Rattle.ddpsh.proofs.CallLaws.{comes_none, cut_item, spoilt_item, paid_item, plain_exit}
+use Rattle.ddpsh.proofs.CallLaws.{comes_none, cut_item, spoilt_item, paid_item, plain_exit, steady_none}
 use Rattle.ddpsh.proofs.calls.write_line.Goals as goal
 
 pub returns-then-behind-count-clause-told : goal.returns-then-behind-count-clause-told
@@ -25,3 +25,12 @@ returns-clause-told g c w kept =
     subst (λ (i : Item). Attempts i c.args.volume.now c.write.new.volume c.write.result c.write.new.text.items)
     (sym (paid_item (Write c.args.name.now c.args.at c.args.count) c.args.behind.now c.args.count c.if-behind-count.false (sym c.if-is_spoilt_at.false ∙ c.is_spoilt_at.ensures)))
     (c.write.ensures.told w kept)
+
+pub returns-then-behind-count-clause-steady : goal.returns-then-behind-count-clause-steady
+returns-then-behind-count-clause-steady g c =
+    rw c.uncalled.ensures (steady_none c.args.volume.now c.refused.result c.requires c.refused.ensures.memory)
+
+pub returns-then-is_spoilt_at-clause-steady : goal.returns-then-is_spoilt_at-clause-steady
+returns-then-is_spoilt_at-clause-steady g c =
+    rw c.uncalled-then-is_spoilt_at.ensures
+    (steady_none c.args.volume.now c.refused-then-is_spoilt_at.result c.requires c.refused-then-is_spoilt_at.ensures.memory)

@@ -2,6 +2,7 @@ use Rattle.std.proofs.Common.{rules, ◌≡◌, Err, refl}
 use Rattle.plain_volume.specs.Step.{digest}
 use Rattle.plain_volume.specs.declared.call.Call.TheVariants.{Digest}
 use Rattle.volume_tables.specs.Tables.{disk_of, view_now}
+use Rattle.volume_files.proofs.Endured.{endures_start}
 use Rattle.volume_core.proofs.Answered.{digest_replied}
 use Rattle.volume_core.proofs.Causes.{refused_not_failed}
 use Rattle.volume_core.proofs.Read.{read_endures}
@@ -33,3 +34,6 @@ returns-in_err-file-clause-adds g c = nothing_adds _ _ (Digest c.args.name.now) 
 
 pub returns-clause-adds : goal.returns-clause-adds
 returns-clause-adds g c = reads_add _ _ (Digest c.args.name.now) c.hash_file.ensures.reads
+
+pub returns-in_err-file-clause-endures : goal.returns-in_err-file-clause-endures
+returns-in_err-file-clause-endures g c = endures_start g.met.D.Disk.same_self c.args.self.now.tables

@@ -42,3 +42,6 @@ returns-then-at-record-clause-adds g c = nothing_adds _ _ (Read c.args.name.now 
 pub returns-clause-adds : goal.returns-clause-adds
 returns-clause-adds g c =
     reads_add _ _ (Read c.args.name.now c.args.at (length c.args.out.now)) c.read_plain.ensures.reads
+
+pub returns-in_err-file-clause-endures : goal.returns-in_err-file-clause-endures
+returns-in_err-file-clause-endures g c = endures_start g.met.D.Disk.same_self c.args.self.now.tables

@@ -7,6 +7,7 @@ use Rattle.volume_tables.specs.Tables.{disk_of, view_now}
 use Rattle.volume_files.specs.Lengths.{for_file}
 use Rattle.volume_files.specs.Wants.{IsRepliedOrMemory}
 use Rattle.volume_files.specs.Writing.{write_wants}
+use Rattle.volume_files.proofs.Endured.{endures_start}
 use Rattle.volume_core.specs.Wants.{file_of}
 use Rattle.volume_core.proofs.Causes.{refused_not_failed}
 use Rattle.volume_core.proofs.Wanting.{write_may}
@@ -62,3 +63,6 @@ pub returns-clause-adds : goal.returns-clause-adds
 returns-clause-adds g c =
     let s = c.write_plain.ensures in
     changes_add _ _ (Write c.args.name.now c.args.at c.args.bytes.now) 0 (omega arith) refl s.spends s.endures
+
+pub returns-in_err-file-clause-endures : goal.returns-in_err-file-clause-endures
+returns-in_err-file-clause-endures g c = endures_start g.met.D.Disk.same_self c.args.self.now.tables
