@@ -66,10 +66,10 @@ fn write<D: Disk>(
 
 /// Writes where the range lies in the disk.
 fn write_in<D: Disk>(disk: &mut D, at: u64, bytes: &[u8]) -> Result<(), Failed> {
-    if at > disk.size() || bytes.len() as u64 > disk.size() - at {
-        return Err(Failed);
+    match at.checked_add(bytes.len() as u64) {
+        Some(end) if end <= disk.size() => disk.write(at, bytes),
+        _ => Err(Failed),
     }
-    disk.write(at, bytes)
 }
 
 fn read<D: Disk>(
@@ -91,8 +91,8 @@ fn read<D: Disk>(
 
 /// Reads where the range lies in the disk.
 fn read_in<D: Disk>(disk: &mut D, at: u64, out: &mut [u8]) -> Result<(), Failed> {
-    if at > disk.size() || out.len() as u64 > disk.size() - at {
-        return Err(Failed);
+    match at.checked_add(out.len() as u64) {
+        Some(end) if end <= disk.size() => disk.read(at, out),
+        _ => Err(Failed),
     }
-    disk.read(at, out)
 }

@@ -43,7 +43,10 @@ impl Clusters {
     }
 
     fn take(&mut self) -> Option<u32> {
-        self.space.take()
+        match self.space.take() {
+            Some(cluster) => Some(cluster),
+            None => None,
+        }
     }
 
     fn release_all(&mut self) {

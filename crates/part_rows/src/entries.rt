@@ -1,5 +1,5 @@
 // The entries of a stream map and their bytes.
-ghost use Rattle.std.specs.Prelude.{◌≡◌, ◌≤◌};
+ghost use Rattle.std.specs.Prelude.{◌≡◌, ◌≤◌, ◌*◌, ◌+◌};
 
 use crate::numbers::{no_question, number, short_number};
 use asked_rows::{Answers, Asked};
@@ -29,11 +29,22 @@ impl Walked {
     /// Hands an entry to the walk, where there is room for one.
     fn push(&mut self, bytes: &[u8; ENTRY_BYTES]) -> Option<Result<Entry, MapFault>> {
         let next = u64::from(self.handed) + 1;
-        if next * 12 > u64::from(self.total) {
+        if 12 * next > u64::from(self.total) {
             return None;
         }
-        self.handed = self.handed.saturating_add(1);
-        Some(self.walk.push(bytes))
+        self.handed += 1;
+        Some(push(&mut self.walk, bytes))
+    }
+}
+
+fn push(walk: &mut Walk, bytes: &[u8; ENTRY_BYTES]) -> Result<Entry, MapFault>
+    requires { 12 * (walk.old.count + 1) ≤ walk.old.total }
+    ensures total { walk.new.total ≡ walk.old.total }
+    ensures count { walk.new.count ≤ walk.old.count + 1 }
+{
+    match walk.push(bytes) {
+        Ok(entry) => Ok(entry),
+        Err(fault) => Err(fault),
     }
 }
 

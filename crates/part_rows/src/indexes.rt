@@ -160,7 +160,8 @@ fn found_each(both: &Both, mut asked: Asked<'_>) -> anyhow::Result<u64> {
     let first = number(&mut asked)?.max(1);
     for id in first..number(&mut asked)? {
         let digest = digest_numbered(id);
-        let is_found = found_by_both(both, &digest, id - 1) == Ok(Some(id));
+        let before = id.saturating_sub(1);
+        let is_found = found_by_both(both, &digest, before) == Ok(Some(id));
         if is_found && found_by_both(both, &digest, id) == Ok(None) {
             count = count.saturating_add(1);
         }

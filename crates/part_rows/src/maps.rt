@@ -161,7 +161,7 @@ fn draw_call(map: &mut ByteMap, list: &mut [Option<u8>], state: u64) -> Result<u
     let third = next_state(second);
     let number = below(first, list.len());
     if below(second, 40) > 0 {
-        let byte = below(third, 256) as u8;
+        let byte = u8::try_from(below(third, 256)).unwrap_or(0);
         put_copies(map, number, byte)?;
         if let Some(value) = list.get_mut(number) {
             *value = Some(byte);
