@@ -1,0 +1,35 @@
+// What is told of a file of rows.
+use std::alloc::{AllocError, Global};
+
+/// How many rows a file has, and a line of text for each of them that differs.
+#[derive(Drop)]
+pub struct Tally {
+    alloc: Global,
+    rows: u64,
+    told: String,
+}
+
+impl Tally {
+    pub fn new(alloc: Global) -> Tally {
+        Tally {
+            alloc,
+            rows: 0,
+            told: String::new(alloc),
+        }
+    }
+
+    /// Counts a row; where it is not right, the line of the file that it ends with is told.
+    pub fn count(&mut self, line: u64, is_right: bool) -> Result<(), AllocError> {
+        self.rows = self.rows.saturating_add(1);
+        if !is_right {
+            let text = format!(in self.alloc; "the row that ends at line {line} differs\n")?;
+            self.told.push_str(&text)?;
+        }
+        Ok(())
+    }
+
+    /// The rows that differ, one a line, and then how many there are in all, with the file's name.
+    pub fn told(&self, file: &str) -> Result<String, AllocError> {
+        format!(in self.alloc; "{}{} rows: {file}\n", self.told.as_str(), self.rows)
+    }
+}
