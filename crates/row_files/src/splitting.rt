@@ -2,7 +2,7 @@
 use std::alloc::{AllocError, Global};
 
 /// A line that is not empty, and its number, counted from 1.
-#[derive(Clone, Copy, Debug)]
+#[derive(Clone, Copy)]
 pub struct Line<'a> {
     pub number: u64,
     pub mark: u8,
