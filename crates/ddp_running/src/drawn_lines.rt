@@ -9,9 +9,18 @@ fn push_named(to: &mut Vec<u8>, draws: &mut Draws, word: &[u8]) -> anyhow::Resul
     Ok(push_three(to, word, name, end)?)
 }
 
+/// Where a write begins, and how many bytes it has: now and then more than a file may have.
+fn range(draws: &mut Draws) -> (u64, u64) {
+    match draws.below(30) {
+        0 => ((1 << 30) - 3, draws.below(30).saturating_add(4)),
+        _ => (draws.place(), draws.count()),
+    }
+}
+
 /// Adds a write with its payload, which now and then is longer than the line says.
 fn push_write(alloc: Global, to: &mut Vec<u8>, draws: &mut Draws) -> anyhow::Result<()> {
-    let (name, at, count) = (draws.name(), draws.place(), draws.count());
+    let name = draws.name();
+    let (at, count) = range(draws);
     let numbers = digits(alloc, at, count)?;
     push_three(to, b"write ", name, numbers.as_bytes())?;
     to.push(b'\n')?;

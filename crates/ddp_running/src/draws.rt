@@ -32,17 +32,17 @@ impl Draws {
         }
     }
 
-    /// A place in the first blocks of a file, mostly near the border of two, and seldom near the end of the longest.
+    /// A place in the first blocks of a file, mostly near the border of two.
     pub fn place(&mut self) -> u64 {
         match self.below(40) {
-            0 => (1 << 30) - 3,
-            1..=9 => self.below(20_000),
+            0..=9 => self.below(20_000),
             10..=19 => self.below(5).wrapping_mul(4096),
             20..=29 => self.below(40),
             _ => self
                 .below(4)
                 .wrapping_mul(4096)
-                .wrapping_add(4090 + self.below(12)),
+                .wrapping_add(4090)
+                .wrapping_add(self.below(12)),
         }
     }
 
