@@ -1,0 +1,101 @@
+// Images that are changed before a run.
+ghost use Rattle.std.specs.Prelude.{◌≤◌, ◌*◌, ◌+◌, ◌≡◌, length, false};
+
+use ddp_running::{Outside, Run, Setting};
+use meta_log::MetaLog;
+use std::alloc::Global;
+use vdisk::{Disk, MemoryDisk};
+
+/// The bytes of an image of 4,096 clusters.
+const IMAGE: u64 = 16_777_216;
+
+/// Where its journal begins, and how long each half of that is.
+const JOURNAL: u64 = 4096;
+
+const HALF: u64 = 524_288;
+
+/// Makes so many bytes of an image a byte.
+fn fill(image: &mut [u8], at: usize, count: usize, byte: u8) {
+    let end = image.len().min(at.saturating_add(count));
+    for place in at..end {
+        image[place] = byte;
+    }
+}
+
+/// Changes the bytes of an image.
+fn change(image: &mut Vec<u8>, setting: &Setting) {
+    match setting {
+        Setting::Blank => image.clear(),
+        Setting::Short(count) => image.truncate(*count as usize),
+        Setting::Fill(at, count, byte) => fill(image, *at as usize, *count as usize, *byte),
+        Setting::Flip(at, mask) => {
+            if let Some(byte) = image.get_mut(*at as usize) {
+                *byte ^= *mask;
+            }
+        }
+        _ => {}
+    }
+}
+
+/// Opens the journal of an image. It says nothing more, so that no caller reads the contract.
+fn opened(alloc: Global, disk: MemoryDisk) -> anyhow::Result<MetaLog<MemoryDisk>> {
+    if disk.size() < IMAGE {
+        return Err(anyhow::anyhow!("an image with records is to be whole"));
+    }
+    match MetaLog::open(alloc, disk, JOURNAL, HALF) {
+        Ok(log) => Ok(log),
+        Err((_disk, _fault)) => Err(anyhow::anyhow!("an image has no journal")),
+    }
+}
+
+/// Stages a record.
+fn stage(log: &mut MetaLog<MemoryDisk>, key: &[u8], value: &[u8]) -> anyhow::Result<()> {
+    match log.stage_put(key, value) {
+        Ok(()) => Ok(()),
+        Err(_fault) => Err(anyhow::anyhow!("a record is not staged")),
+    }
+}
+
+/// Commits what is staged, and hands the disk back.
+fn committed(log: MetaLog<MemoryDisk>) -> anyhow::Result<MemoryDisk> {
+    let mut log = log;
+    if log.is_stopped() || log.commit().is_err() {
+        return Err(anyhow::anyhow!("records are not committed"));
+    }
+    Ok(log.into_disk())
+}
+
+/// A disk with the journal's records of these settings.
+fn with_records(
+    alloc: Global,
+    disk: MemoryDisk,
+    settings: &[Setting],
+) -> anyhow::Result<MemoryDisk> {
+    let mut log = opened(alloc, disk)?;
+    for setting in settings {
+        if let Setting::Record(key, value) = setting {
+            stage(&mut log, key, value)?;
+        }
+    }
+    committed(log)
+}
+
+/// The disk of a run: the image that is left, as the run's settings change it.
+pub fn disk_for(alloc: Global, run: &Run, left: &[u8]) -> anyhow::Result<MemoryDisk> {
+    let mut image = left.to_vec(alloc)?;
+    let mut has_records = false;
+    for setting in &run.settings {
+        change(&mut image, setting);
+        has_records |= matches!(setting, Setting::Record(_, _));
+    }
+    let mut disk = MemoryDisk::with_image(alloc, image);
+    if has_records {
+        let written = with_records(alloc, disk, &run.settings)?;
+        disk = MemoryDisk::with_image(alloc, written.image().to_vec(alloc)?);
+    }
+    let call = run.fails_from(Outside::Disk);
+    if call > 0 {
+        disk.fail_from(call);
+    }
+    Ok(disk)
+}

@@ -1,0 +1,121 @@
+// A run is stopped at each call of its disk, and each image that is left is mounted.
+use crate::items::items_of;
+use crate::plain::Plain;
+use crate::rows::{Row, Run};
+use crate::running::{Ran, Way, disk_of, make_run};
+use crate::told::is_as_told;
+use ddpsh::Outcome;
+use std::alloc::Global;
+use vdisk::MemoryDisk;
+
+/// The picks of what a crash leaves.
+const PICKS: u64 = 16;
+
+/// A run with more calls of the disk is not stopped at each.
+const MOST_STOPS: u64 = 400;
+
+/// All at once, as a script comes in and its answers go out.
+const WHOLE: Way = Way::Portions(u64::MAX);
+
+/// What a reading tells after each front of a script's calls, the empty one first.
+fn fronts_of(alloc: Global, script: &[u8], reading: &[u8]) -> anyhow::Result<Vec<Vec<u8>>> {
+    let (calls, reading) = (items_of(alloc, script)?, items_of(alloc, reading)?);
+    let mut plain = Plain::new(alloc);
+    let mut fronts = Vec::new(alloc);
+    fronts.push(plain.told(&reading)?)?;
+    for call in &calls {
+        plain.step(call)?;
+        fronts.push(plain.told(&reading)?)?;
+    }
+    Ok(fronts)
+}
+
+/// How many calls the last acknowledgement holds.
+fn acknowledged(outcome: &Outcome) -> u64 {
+    let mut calls = 0;
+    for k in 0..usize::MAX {
+        match outcome.acks.at(k) {
+            Some(ack) => calls = ack.calls,
+            None => return calls,
+        }
+    }
+    calls
+}
+
+/// Is this what is read back after some front of the calls that has at least and at most so many?
+fn is_a_front(fronts: &[Vec<u8>], least: u64, most: u64, printed: &[u8]) -> bool {
+    for (k, front) in fronts.iter().enumerate() {
+        let count = k as u64;
+        if least <= count && count <= most && front.as_slice() == printed {
+            return true;
+        }
+    }
+    false
+}
+
+/// A run over an image that a crash left.
+fn read_back(alloc: Global, reading: &Run, left: &MemoryDisk, pick: u64) -> anyhow::Result<Ran> {
+    let mut disk = MemoryDisk::with_image(alloc, left.crash(pick)?);
+    make_run(alloc, reading, WHOLE, &mut disk)
+}
+
+/// Is each image that a crash may leave that of a front of the calls? At most one call was made beyond the answers.
+fn leaves_a_front(
+    alloc: Global,
+    reading: &Run,
+    fronts: &[Vec<u8>],
+    left: &MemoryDisk,
+    outcome: &Outcome,
+) -> anyhow::Result<bool> {
+    let (least, most) = (acknowledged(outcome), outcome.lines.saturating_add(1));
+    for pick in 0..PICKS {
+        let read = read_back(alloc, reading, left, pick)?;
+        if read.outcome.opened.is_none() || !is_a_front(fronts, least, most, &read.printed) {
+            return Ok(false);
+        }
+    }
+    Ok(true)
+}
+
+/// The run that reads back.
+fn reading_of(alloc: Global, run: &Run) -> anyhow::Result<Run> {
+    let mut reading = Run::new(alloc);
+    reading.script.extend_from_slice(&run.reading)?;
+    Ok(reading)
+}
+
+/// A run whose disk fails from a call on, and that disk.
+fn stopped(alloc: Global, run: &Run, image: &[u8], stop: u64) -> anyhow::Result<(Ran, MemoryDisk)> {
+    let mut disk = disk_of(alloc, image)?;
+    disk.fail_from(stop);
+    let ran = make_run(alloc, run, WHOLE, &mut disk)?;
+    Ok((ran, disk))
+}
+
+/// Is the run that no stop reaches as it is told, with all its calls acknowledged?
+fn is_whole(alloc: Global, run: &Run, fronts: &[Vec<u8>], ran: &Ran) -> anyhow::Result<bool> {
+    let calls = fronts.len().saturating_sub(1) as u64;
+    let is_told = is_as_told(run, &mut Plain::new(alloc), ran)?;
+    Ok(is_told && acknowledged(&ran.outcome) == calls)
+}
+
+/// Is the row's run as it is told, and does it survive a stop at each call of its disk? Each image that a crash then
+/// leaves holds a front of the calls that has all the acknowledged ones.
+pub fn survives(alloc: Global, row: &Row, image: &[u8]) -> anyhow::Result<bool> {
+    let Some(run) = row.runs.first() else {
+        return Ok(false);
+    };
+    let fronts = fronts_of(alloc, &run.script, &run.reading)?;
+    let reading = reading_of(alloc, run)?;
+    for stop in 1..MOST_STOPS {
+        let (ran, disk) = stopped(alloc, run, image, stop)?;
+        let is_open = ran.outcome.opened.is_some();
+        if is_open && !leaves_a_front(alloc, &reading, &fronts, &disk, &ran.outcome)? {
+            return Ok(false);
+        }
+        if ran.outcome.status != 3 {
+            return is_whole(alloc, run, &fronts, &ran);
+        }
+    }
+    Ok(false)
+}

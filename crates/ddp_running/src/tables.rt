@@ -1,0 +1,139 @@
+// Files of rows are read.
+use crate::blocks::{Block, block_of, filled, push_many};
+use crate::drawn_lines::push_drawn;
+use crate::rows::{Durable, End, Row, Run};
+use crate::settings::setting_of;
+use row_files::{Line, lines, number, push_line, split_word};
+use std::alloc::Global;
+use std::mem;
+
+/// The two numbers of a text.
+fn two_numbers(text: &[u8]) -> anyhow::Result<(u64, u64)> {
+    let (first, second) = split_word(text);
+    match (number(first), number(second)) {
+        (Some(first), Some(second)) => Ok((first, second)),
+        _ => Err(anyhow::anyhow!("two numbers are wanted")),
+    }
+}
+
+fn end_of(text: &[u8]) -> anyhow::Result<End> {
+    if text == b"plain".as_slice() {
+        return Ok(End::Plain);
+    }
+    let (status, lines) = two_numbers(text)?;
+    Ok(End::Told(status, lines))
+}
+
+fn durable_of(text: &[u8]) -> anyhow::Result<Durable> {
+    let (moment, calls) = two_numbers(text)?;
+    Ok(Durable { moment, calls })
+}
+
+/// Takes a line of a run in.
+fn take_in(alloc: Global, run: &mut Run, mark: u8, text: &[u8]) -> anyhow::Result<()> {
+    match mark {
+        b'>' => push_line(&mut run.script, text)?,
+        b'<' => push_line(&mut run.output, text)?,
+        b'?' => push_line(&mut run.reading, text)?,
+        b'+' => push_many(alloc, &mut run.script, text)?,
+        b'-' => push_many(alloc, &mut run.output, text)?,
+        b':' => run.settings.push(setting_of(alloc, text)?)?,
+        b'@' => run.acks.push(durable_of(text)?)?,
+        b'%' => {
+            let (seed, count) = two_numbers(text)?;
+            push_drawn(alloc, &mut run.script, seed, count)?;
+        }
+        _ => return Err(anyhow::anyhow!("no line has such a mark")),
+    }
+    Ok(())
+}
+
+/// Takes the lines of a block in, as often as it says.
+fn repeat(alloc: Global, run: &mut Run, block: &Block<'_>) -> anyhow::Result<()> {
+    for turn in 0..block.count {
+        let place = turn.wrapping_mul(block.step).checked_rem(block.count);
+        take_block(alloc, run, block, place.unwrap_or(0))?;
+    }
+    Ok(())
+}
+
+fn take_block(alloc: Global, run: &mut Run, block: &Block<'_>, number: u64) -> anyhow::Result<()> {
+    for line in &block.lines {
+        take_in(alloc, run, line.mark, &filled(alloc, line.text, number)?)?;
+    }
+    Ok(())
+}
+
+/// Rows, as far as a file was read.
+#[derive(Drop)]
+struct Table<'a> {
+    alloc: Global,
+    rows: Vec<Row>,
+    runs: Vec<Run>,
+    run: Run,
+    block: Option<Block<'a>>,
+}
+
+impl<'a> Table<'a> {
+    /// Ends a run, and hands it out.
+    fn end_run(&mut self, text: &[u8]) -> anyhow::Result<Run> {
+        let mut run = mem::replace(&mut self.run, Run::new(self.alloc));
+        run.end = end_of(text)?;
+        Ok(run)
+    }
+
+    fn end_row(&mut self, line: Line<'a>) -> anyhow::Result<()> {
+        let run = self.end_run(line.text)?;
+        let mut runs = mem::replace(&mut self.runs, Vec::new(self.alloc));
+        runs.push(run)?;
+        self.rows.push(Row {
+            line: line.number,
+            runs,
+        })?;
+        Ok(())
+    }
+
+    fn take_in(&mut self, line: Line<'a>) -> anyhow::Result<()> {
+        if let Some(block) = &mut self.block {
+            block.lines.push(line)?;
+            return Ok(());
+        }
+        match line.mark {
+            b'#' => {}
+            b'*' => self.block = Some(block_of(self.alloc, line.text)),
+            b';' => {
+                let run = self.end_run(line.text)?;
+                self.runs.push(run)?;
+            }
+            b'=' => self.end_row(line)?,
+            _ => take_in(self.alloc, &mut self.run, line.mark, line.text)?,
+        }
+        Ok(())
+    }
+
+    fn end_block(&mut self) -> anyhow::Result<()> {
+        if let Some(block) = self.block.take() {
+            repeat(self.alloc, &mut self.run, &block)?;
+        }
+        Ok(())
+    }
+}
+
+/// The rows of a file. A line that has no known mark is an error, and so is one that is not spelt as its mark asks.
+pub fn rows_of(alloc: Global, file: &[u8]) -> anyhow::Result<Vec<Row>> {
+    let mut table = Table {
+        alloc,
+        rows: Vec::new(alloc),
+        runs: Vec::new(alloc),
+        run: Run::new(alloc),
+        block: None,
+    };
+    for line in &lines(alloc, file)? {
+        if line.mark == b'/' {
+            table.end_block()?;
+        } else {
+            table.take_in(*line)?;
+        }
+    }
+    Ok(table.rows)
+}
