@@ -1,4 +1,4 @@
-// Calls on a volume of which only this is told, that they were done; so no bench reads their contracts.
+// Calls on a volume of which only this is told, whether they were done; so no bench reads their contracts.
 ghost use Rattle.std.specs.Prelude.{◌≤◌, ◌^◌};
 
 use anyhow::bail;
@@ -17,37 +17,14 @@ pub fn format<D: Disk + Drop>(alloc: Global, disk: D, clusters: u32) -> anyhow::
     }
 }
 
-pub fn create<D: Disk>(volume: &mut Volume<D>, name: &[u8]) -> anyhow::Result<()> {
-    if volume.is_stopped() {
-        bail!("the volume is stopped");
-    }
-    if volume.create(name).is_err() {
-        bail!("a file was not created");
-    }
-    Ok(())
+pub fn create<D: Disk>(volume: &mut Volume<D>, name: &[u8]) -> bool {
+    !volume.is_stopped() && volume.create(name).is_ok()
 }
 
-pub fn write<D: Disk>(
-    volume: &mut Volume<D>,
-    name: &[u8],
-    at: u64,
-    bytes: &[u8],
-) -> anyhow::Result<()> {
-    if volume.is_stopped() {
-        bail!("the volume is stopped");
-    }
-    if volume.write(name, at, bytes).is_err() {
-        bail!("a write was refused");
-    }
-    Ok(())
+pub fn write<D: Disk>(volume: &mut Volume<D>, name: &[u8], at: u64, bytes: &[u8]) -> bool {
+    !volume.is_stopped() && volume.write(name, at, bytes).is_ok()
 }
 
-pub fn flush<D: Disk>(volume: &mut Volume<D>) -> anyhow::Result<()> {
-    if volume.is_stopped() {
-        bail!("the volume is stopped");
-    }
-    if volume.flush().is_err() {
-        bail!("a flush was refused");
-    }
-    Ok(())
+pub fn flush<D: Disk>(volume: &mut Volume<D>) -> bool {
+    !volume.is_stopped() && volume.flush().is_ok()
 }

@@ -1,10 +1,11 @@
 // Inserting into and finding in the two forms of an index.
-ghost use Rattle.std.specs.Prelude.{◌≤◌, ◌<◌, ◌^◌, slice_get, vec_len};
+ghost use Rattle.std.specs.Prelude.{◌<◌, ◌^◌, slice_get, vec_len};
 
 use crate::random::mixed;
-use crate::report::{Figure, cost};
+use crate::report::{cost, figure};
 use hash_index::{CompactIndex, Digests, Index, OrderedIndex};
 use std::alloc::{AllocError, Global};
+use std::io;
 use std::rt::Clock;
 use std::time::Instant;
 
@@ -26,80 +27,119 @@ impl Digests for Listed {
 pub fn measure(
     rt: &(impl Print + Eprint + Alloc<A = Global> + Clock),
     count: u32,
-) -> anyhow::Result<()>
-    requires { 0 < count }
-{
+) -> anyhow::Result<()> {
     let known = digests_of(rt.alloc(), count)?;
-    let mut ordered = OrderedIndex::new(rt.alloc());
-    let found = compare(
-        rt,
-        &mut ordered,
-        &known,
-        count,
-        ["index.ordered.insert", "index.ordered.find"],
-    )?;
+    measure_ordered(rt, &known, count)?;
+    measure_compact(rt, &known, count)
+}
+
+fn measure_ordered(
+    rt: &(impl Print + Eprint + Alloc<A = Global> + Clock),
+    known: &Listed,
+    count: u32,
+) -> anyhow::Result<()> {
+    let mut index = OrderedIndex::new(rt.alloc());
+    time_inserts(rt, &mut index, known, count, "index.ordered.insert")?;
+    let found = time_finds(rt, &index, known, count, "index.ordered.find")?;
+    tell_ordered(rt, count, found)
+}
+
+fn tell_ordered(rt: &impl Print, count: u32, found: u64) -> anyhow::Result<()> {
     println!(rt; "index ordered digests {count} found {found}")?;
-    let mut compact = CompactIndex::new(rt.alloc());
-    let found = compare(
-        rt,
-        &mut compact,
-        &known,
-        count,
-        ["index.compact.insert", "index.compact.find"],
-    )?;
-    println!(rt;
-        "index compact digests {count} found {found} held {} slots {}",
-        compact.held(),
-        compact.slots()
-    )?;
-    rt.eprintln(Figure {
-        name: "index.compact.slot_bytes",
-        value: (compact.slots() as u64).saturating_mul(6) / u64::from(count),
-        unit: "bytes",
-    })?;
     Ok(())
 }
 
-/// Times the inserts and the finds of one form. The names are those of the two figures.
-fn compare<I: Index>(
+fn measure_compact(
+    rt: &(impl Print + Eprint + Alloc<A = Global> + Clock),
+    known: &Listed,
+    count: u32,
+) -> anyhow::Result<()> {
+    let mut index = CompactIndex::new(rt.alloc());
+    time_inserts(rt, &mut index, known, count, "index.compact.insert")?;
+    let found = time_finds(rt, &index, known, count, "index.compact.find")?;
+    tell_compact(rt, count, found, index.held(), index.slots())
+}
+
+fn tell_compact(
+    rt: &(impl Print + Eprint),
+    count: u32,
+    found: u64,
+    held: usize,
+    slots: usize,
+) -> anyhow::Result<()> {
+    println!(rt; "index compact digests {count} found {found} held {held} slots {slots}")?;
+    let bytes = (slots as u64).saturating_mul(6);
+    figure(
+        rt,
+        "index.compact.slot_bytes",
+        bytes / u64::from(count).max(1),
+        "bytes",
+    )?;
+    Ok(())
+}
+
+/// Inserts each digest, and tells the figure of that name.
+fn time_inserts<I: Index>(
     rt: &(impl Eprint + Clock),
     index: &mut I,
     known: &Listed,
     count: u32,
-    names: [&'static str; 2],
-) -> anyhow::Result<u64>
-    requires { 0 < count }
-{
-    let [insert_name, find_name] = names;
+    name: &str,
+) -> anyhow::Result<()> {
     let start = Instant::now(rt)?;
-    insert_all(index, known)?;
-    rt.eprintln(cost(insert_name, count, start.elapsed(rt)?))?;
+    insert_all(index, known, count)?;
+    cost(rt, name, count, start)?;
+    Ok(())
+}
+
+/// How many digests are found at their own id. It tells the figure of that name.
+fn time_finds<I: Index>(
+    rt: &(impl Eprint + Clock),
+    index: &I,
+    known: &Listed,
+    count: u32,
+    name: &str,
+) -> io::Result<u64> {
     let start = Instant::now(rt)?;
     let found = find_all(index, known);
-    rt.eprintln(cost(find_name, count, start.elapsed(rt)?))?;
+    cost(rt, name, count, start)?;
     Ok(found)
 }
 
-/// Inserts each id under its digest.
-fn insert_all<I: Index>(index: &mut I, known: &Listed) -> Result<(), hash_index::Memory> {
-    for (id, digest) in known.digests.iter().enumerate() {
-        let id = id as u64;
-        if 0 < id && id <= hash_index::LARGEST_ID {
-            index.insert(digest, id, known)?;
-        }
+fn insert_all<I: Index>(
+    index: &mut I,
+    known: &Listed,
+    count: u32,
+) -> Result<(), hash_index::Memory> {
+    for id in 1..=count {
+        insert_one(index, known, id)?;
     }
     Ok(())
 }
 
-/// How many digests are found at their own id.
+/// Inserts an id above 0 under its digest.
+fn insert_one<I: Index>(index: &mut I, known: &Listed, id: u32) -> Result<(), hash_index::Memory>
+    requires { 0 < id }
+{
+    match known.digests.get(id as usize) {
+        Some(digest) => index.insert(digest, u64::from(id), known),
+        None => Ok(()),
+    }
+}
+
 fn find_all<I: Index>(index: &I, known: &Listed) -> u64 {
     let mut found = 0u64;
     for (id, digest) in known.digests.iter().enumerate() {
-        if index.find(digest, 0, known) == Some(id as u64) {
+        if find_one(index, known, digest) == Some(id as u64) {
             found = found.saturating_add(1);
         }
     }
     found
+}
+
+/// The least id that is held with a digest.
+fn find_one<I: Index>(index: &I, known: &Listed, digest: &[u8; 32]) -> Option<u64> {
+    index.find(digest, 0, known)
 }
 
 /// Digests for the ids 1 to `count`, spread in their first sixteen bytes.

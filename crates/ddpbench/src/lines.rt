@@ -1,17 +1,13 @@
 // The path of a script: lines and payloads in, answers out.
-ghost use Rattle.std.specs.Prelude.{◌≤◌, ◌<◌, ◌*◌, ◌^◌};
-
-use crate::random::add_random;
-use crate::report::rate;
-use crate::served::served;
+use crate::report::{nanos_since, rate};
+use crate::scripts::{FILE_BYTES, add_payload};
+use crate::served::{Served, time_run};
 use cmdlet_line::Words;
 use std::alloc::{AllocError, Global};
+use std::io;
 use std::rt::Clock as SystemTime;
 use std::time::Instant;
 use vdisk::{Failed, MemoryClock, MemoryDisk, MemorySink, MemorySource, Sink, Source};
-
-/// The bytes of one payload.
-const PIECE: u64 = 1_048_576;
 
 /// The bytes of one piece of a copy.
 const COPY: usize = 65_536;
@@ -20,34 +16,63 @@ const COPY: usize = 65_536;
 /// a sink for comparison.
 pub fn measure(
     rt: &(impl Print + Eprint + Alloc<A = Global> + SystemTime),
-    size: u64,
-) -> anyhow::Result<()>
-    requires { size ≤ 1024 }
-{
-    let alloc = rt.alloc();
-    let script = script_of(alloc, size)?;
-    let came = script.len() as u64;
-    let mut copied = MemorySink::new(alloc);
-    let start = Instant::now(rt)?;
-    copy(alloc, &mut MemorySource::new(script.clone()?), &mut copied)?;
-    let copying = start.elapsed(rt)?;
+    size: u32,
+) -> anyhow::Result<()> {
+    let script = script_of(rt.alloc(), size)?;
+    copy_whole(rt, script.clone()?)?;
+    serve_whole(rt, script)
+}
 
-    let words = words_of(alloc)?;
-    let mut source = MemorySource::new(script);
-    let mut sink = MemorySink::new(alloc);
-    let mut disk = MemoryDisk::new(alloc, 0)?;
-    let mut clock = MemoryClock::new(0);
-    let start = Instant::now(rt)?;
-    let outcome = served(alloc, &words, &mut source, &mut sink, &mut disk, &mut clock);
-    let serving = start.elapsed(rt)?;
-    let went = sink.bytes().len() as u64;
-    println!(rt;
-        "lines {} status {} bytes {} {}",
-        outcome.lines, outcome.status, came, went
-    )?;
-    rt.eprintln(rate("lines.copy", came.saturating_add(came), copying))?;
-    rt.eprintln(rate("lines.serve", came.saturating_add(went), serving))?;
+/// Copies a script from a source to a sink.
+fn copy_whole(
+    rt: &(impl Eprint + Alloc<A = Global> + SystemTime),
+    script: Vec<u8>,
+) -> anyhow::Result<()> {
+    let came = script.len() as u64;
+    let sink = MemorySink::new(rt.alloc());
+    let nanos = time_copy(rt, MemorySource::new(script), sink)?;
+    rate(rt, "lines.copy", came.saturating_add(came), nanos)?;
     Ok(())
+}
+
+fn time_copy<S: Source + Drop, K: Sink + Drop>(
+    rt: &(impl Alloc<A = Global> + SystemTime),
+    mut source: S,
+    mut sink: K,
+) -> anyhow::Result<u64> {
+    let start = Instant::now(rt)?;
+    copy(rt.alloc(), &mut source, &mut sink)?;
+    Ok(nanos_since(rt, start)?)
+}
+
+/// Serves a script over a disk in memory.
+fn serve_whole(
+    rt: &(impl Print + Eprint + Alloc<A = Global> + SystemTime),
+    script: Vec<u8>,
+) -> anyhow::Result<()> {
+    let came = script.len() as u64;
+    let mut sink = MemorySink::new(rt.alloc());
+    let served = serve(rt, MemorySource::new(script), &mut sink)?;
+    tell(rt, served, came, sink.bytes().len() as u64)?;
+    Ok(())
+}
+
+fn serve(
+    rt: &(impl Alloc<A = Global> + SystemTime),
+    mut source: MemorySource,
+    sink: &mut MemorySink,
+) -> anyhow::Result<Served> {
+    let words = words_of(rt.alloc())?;
+    let mut disk = MemoryDisk::new(rt.alloc(), 0)?;
+    let mut clock = MemoryClock::new(0);
+    Ok(time_run(rt, &words, &mut source, sink, &mut disk, &mut clock)?)
+}
+
+/// Tells what a run came to, over so many bytes that came and went.
+fn tell(rt: &(impl Print + Eprint), served: Served, came: u64, went: u64) -> io::Result<()> {
+    let (lines, status) = (served.lines, served.status);
+    println!(rt; "lines {lines} status {status} bytes {came} {went}")?;
+    rate(rt, "lines.serve", came.saturating_add(went), served.nanos)
 }
 
 /// The words of a run.
@@ -60,48 +85,60 @@ fn words_of(alloc: Global) -> Result<Words, cmdlet_line::Memory> {
 }
 
 /// A script that creates a file, writes so many payloads behind one another and reads them back.
-fn script_of(alloc: Global, pieces: u64) -> Result<Vec<u8>, AllocError>
-    requires { pieces ≤ 1024 }
-{
+fn script_of(alloc: Global, pieces: u32) -> Result<Vec<u8>, AllocError> {
     let mut script = Vec::new(alloc);
     script.extend_from_slice(b"create a\n")?;
-    for k in 0..pieces {
-        let at = k * PIECE;
-        script.extend_from_slice(format!(in alloc; "write a {at} {PIECE}\n")?.as_bytes())?;
-        add_payload(&mut script, k)?;
-    }
-    for k in 0..pieces {
-        let at = k * PIECE;
-        script.extend_from_slice(format!(in alloc; "read a {at} {PIECE}\n")?.as_bytes())?;
-    }
+    add_writes(alloc, &mut script, pieces)?;
+    add_reads(alloc, &mut script, pieces)?;
     Ok(script)
 }
 
-/// Adds a payload of random bytes and its newline.
-fn add_payload(script: &mut Vec<u8>, number: u64) -> Result<(), AllocError> {
-    add_random(script, number ^ 0x9e37_79b9_7f4a_7c15, PIECE as usize / 8)?;
-    script.push(b'\n')?;
+fn add_writes(alloc: Global, script: &mut Vec<u8>, pieces: u32) -> Result<(), AllocError> {
+    for k in 0..pieces {
+        let at = u64::from(k) * FILE_BYTES;
+        let line = format!(in alloc; "write a {at} {FILE_BYTES}\n")?;
+        script.extend_from_slice(line.as_bytes())?;
+        add_payload(script, u64::from(k), FILE_BYTES)?;
+    }
+    Ok(())
+}
+
+fn add_reads(alloc: Global, script: &mut Vec<u8>, pieces: u32) -> Result<(), AllocError> {
+    for k in 0..pieces {
+        let at = u64::from(k) * FILE_BYTES;
+        let line = format!(in alloc; "read a {at} {FILE_BYTES}\n")?;
+        script.extend_from_slice(line.as_bytes())?;
+    }
     Ok(())
 }
 
 /// Copies what a source has to a sink.
-fn copy(alloc: Global, source: &mut MemorySource, sink: &mut MemorySink) -> anyhow::Result<()> {
+fn copy<S: Source, K: Sink>(alloc: Global, source: &mut S, sink: &mut K) -> anyhow::Result<()> {
     let mut piece = vec![in alloc; 0u8; COPY]?;
     for _ in 0..u64::MAX {
-        let count = source.read(&mut piece)?;
-        if count == 0 {
-            break;
+        match read(source, &mut piece)? {
+            0 => break,
+            count => put(sink, piece.get(..count).unwrap_or(&[]))?,
         }
-        put(sink, &piece[..count])?;
     }
     Ok(())
 }
 
+fn read<S: Source>(source: &mut S, piece: &mut [u8]) -> Result<usize, Failed> {
+    source.read(piece)
+}
+
 /// Writes a piece whole.
-fn put(sink: &mut MemorySink, piece: &[u8]) -> Result<(), Failed> {
-    let mut done = 0;
-    while done < piece.len() {
-        done += sink.write(&piece[done..])?;
+fn put<K: Sink>(sink: &mut K, piece: &[u8]) -> Result<(), Failed> {
+    let mut rest = piece;
+    for _ in 0..piece.len() {
+        rest = put_some(sink, rest)?;
     }
     Ok(())
+}
+
+/// Writes some of a piece, and gives what is left of it.
+fn put_some<'a, K: Sink>(sink: &mut K, piece: &'a [u8]) -> Result<&'a [u8], Failed> {
+    let count = sink.write(piece)?;
+    Ok(piece.get(count..).unwrap_or(&[]))
 }

@@ -7,6 +7,7 @@
 mod calls;
 mod counted;
 mod cut;
+mod files;
 mod index;
 mod journal;
 mod lines;
@@ -25,7 +26,7 @@ use std::process::ExitCode;
 use vdisk::StandardStreams;
 
 /// The largest size of `cut`, `lines` and `store`, in MiB: what one file of the volume holds.
-const MOST_MEBIBYTES: u64 = 1024;
+const MOST_MEBIBYTES: u32 = 1024;
 
 const USAGE: &str =
     "usage: ddpbench cut|lines|store MB, or ddpbench index|journal|map|overwrite|space COUNT";
@@ -36,27 +37,32 @@ fn main(rt: HostRuntime) -> anyhow::Result<ExitCode> {
     let mut words = env::args(&rt)?;
     let _program = words.next();
     let (Some(bench), Some(size)) = (words.next(), words.next()) else {
-        rt.eprintln(USAGE)?;
-        return Ok(ExitCode::from(2));
+        return refuse(&rt);
     };
-    let Ok(size) = size.as_str().parse::<u32>() else {
-        rt.eprintln(USAGE)?;
-        return Ok(ExitCode::from(2));
-    };
-    let mebibytes = u64::from(size);
-    match bench.as_str() {
-        "cut" if mebibytes <= MOST_MEBIBYTES => cut::measure(&rt, mebibytes)?,
-        "lines" if mebibytes <= MOST_MEBIBYTES => lines::measure(&rt, mebibytes)?,
-        "store" if mebibytes <= MOST_MEBIBYTES => store::measure(&rt, mebibytes)?,
-        "index" if 0 < size => index::measure(&rt, size)?,
-        "journal" if 0 < size => journal::measure(&rt, size)?,
-        "map" if 0 < size => map::measure(&rt, size)?,
-        "overwrite" if 0 < size => overwrite::measure(&rt, size)?,
-        "space" if 0 < size => space::measure(&rt, size)?,
-        _ => {
-            rt.eprintln(USAGE)?;
-            return Ok(ExitCode::from(2));
-        }
+    match size.as_str().parse::<u32>() {
+        Ok(size) => measure(&rt, bench.as_str(), size),
+        Err(_) => refuse(&rt),
     }
+}
+
+/// Says how the program is called.
+fn refuse(rt: &HostRuntime) -> anyhow::Result<ExitCode> {
+    rt.eprintln(USAGE)?;
+    Ok(ExitCode::from(2))
+}
+
+fn measure(rt: &HostRuntime, bench: &str, size: u32) -> anyhow::Result<ExitCode> {
+    let measured = match bench {
+        "cut" if size <= MOST_MEBIBYTES => cut::measure(rt, size),
+        "lines" if size <= MOST_MEBIBYTES => lines::measure(rt, size),
+        "store" if size <= MOST_MEBIBYTES => store::measure(rt, size),
+        "index" if 0 < size => index::measure(rt, size),
+        "journal" if 0 < size => journal::measure(rt, size),
+        "map" if 0 < size => map::measure(rt, size),
+        "overwrite" if 0 < size => overwrite::measure(rt, size),
+        "space" if 0 < size => space::measure(rt, size),
+        _ => return refuse(rt),
+    };
+    measured?;
     Ok(ExitCode::from(0))
 }

@@ -1,15 +1,16 @@
 // Random overwrites of blocks in a large and in a small file of one volume over a real file.
-ghost use Rattle.std.specs.Prelude.{◌≤◌, ◌<◌, ◌+◌, ◌*◌, ◌%◌, ◌≡◌, ◌^◌};
-
 use crate::calls::{create, flush, format, write};
-use crate::counted::Counted;
+use crate::counted::{Counted, Counts};
+use crate::files::clear;
 use crate::random::{add_random, mixed};
-use crate::report::Portion;
+use crate::report::{nanos_since, portion};
 use crate::scripts::{BLOCK_BYTES, FILE_BYTES};
+use anyhow::ensure;
 use std::alloc::{AllocError, Global};
 use std::fs::{self, File};
+use std::io;
 use std::rt::{Clock, Files};
-use std::time::{Duration, Instant};
+use std::time::Instant;
 use vdisk::{Disk, FileDisk};
 use volume_core::Volume;
 
@@ -26,9 +27,7 @@ const SEED: u64 = 0x9e37_79b9_7f4a_7c15;
 #[derive(Clone, Copy)]
 struct Target {
     name: &'static [u8],
-    mebibytes: u64,
-    ghost some: { 0 < mebibytes },
-    ghost few: { mebibytes ≤ 1024 },
+    mebibytes: u32,
 }
 
 /// The longest file that a volume holds.
@@ -42,12 +41,11 @@ const SMALL: Target = Target {
     mebibytes: 1,
 };
 
-/// How long the overwrites of each file took, and the disk behind them.
-#[derive(Drop)]
-struct Overwritten<D: Disk> {
-    large: Duration,
-    small: Duration,
-    disk: D,
+/// How many us the overwrites of each file took.
+#[derive(Clone, Copy)]
+struct Times {
+    large: u64,
+    small: u64,
 }
 
 /// Fills a file of 1 GiB and one of 1 MiB in one volume, so that its tables hold an extent for each of their 262,144
@@ -57,61 +55,63 @@ pub fn measure(
     rt: &(impl Print + Eprint + Alloc<A = Global> + Clock + Files<File = File>),
     count: u32,
 ) -> anyhow::Result<()> {
-    let _gone = fs::remove_file(rt, PATH);
+    clear(rt, PATH);
     let disk = Counted::new(FileDisk::open(rt, PATH, true));
-    let done = overwrite_both(rt, disk, count)?;
-    let counts = done.disk.counts;
-    println!(rt;
-        "overwrite count {count} calls {} written {} commits {} syncs {}",
-        counts.calls, counts.written, counts.commits, counts.syncs
-    )?;
-    let large = micros(done.large);
-    let small = micros(done.small);
-    tell(rt, "overwrite.large", large, u64::from(count), "us")?;
-    tell(rt, "overwrite.small", small, u64::from(count), "us")?;
-    tell(rt, "overwrite.ratio", large, small, "large/small")?;
+    let (times, counts) = fill_and_overwrite(rt, disk, count)?;
+    tell_counts(rt, count, counts)?;
+    tell_times(rt, count, times)?;
     fs::remove_file(rt, PATH)?;
     Ok(())
 }
 
-fn micros(time: Duration) -> u64 {
-    u64::try_from(time.as_micros()).unwrap_or(u64::MAX)
-}
-
-fn tell(
-    rt: &impl Eprint,
-    name: &'static str,
-    part: u64,
-    whole: u64,
-    unit: &'static str,
-) -> anyhow::Result<()> {
-    rt.eprintln(Portion {
-        name,
-        part,
-        whole,
-        unit,
-    })?;
-    Ok(())
-}
-
 /// Makes a volume on a disk, fills both files, and overwrites so many blocks of each.
-fn overwrite_both<D: Disk + Drop>(
+fn fill_and_overwrite(
     rt: &(impl Alloc<A = Global> + Clock),
-    disk: D,
+    disk: Counted<FileDisk>,
     count: u32,
-) -> anyhow::Result<Overwritten<D>> {
+) -> anyhow::Result<(Times, Counts)> {
     let mut volume = format(rt.alloc(), disk, CLUSTERS)?;
+    fill_both(rt, &mut volume)?;
+    let times = overwrite_both(rt, &mut volume, count)?;
+    Ok((times, volume.into_disk().counts))
+}
+
+fn tell_counts(rt: &impl Print, count: u32, counts: Counts) -> io::Result<()> {
+    println!(rt;
+        "overwrite count {count} calls {} written {} commits {} syncs {}",
+        counts.calls, counts.written, counts.commits, counts.syncs
+    )
+}
+
+fn tell_times(rt: &impl Eprint, count: u32, times: Times) -> io::Result<()> {
+    let count = u64::from(count);
+    portion(rt, "overwrite.large", times.large, count, "us")?;
+    portion(rt, "overwrite.small", times.small, count, "us")?;
+    portion(
+        rt,
+        "overwrite.ratio",
+        times.large,
+        times.small,
+        "large/small",
+    )
+}
+
+fn fill_both<D: Disk>(rt: &impl Alloc<A = Global>, volume: &mut Volume<D>) -> anyhow::Result<()> {
     let bytes = random_bytes(rt.alloc(), FILE_BYTES)?;
-    fill(&mut volume, LARGE, &bytes)?;
-    fill(&mut volume, SMALL, &bytes)?;
+    fill(volume, LARGE, &bytes)?;
+    fill(volume, SMALL, &bytes)
+}
+
+/// Overwrites so many blocks of each file.
+fn overwrite_both<D: Disk>(
+    rt: &(impl Alloc<A = Global> + Clock),
+    volume: &mut Volume<D>,
+    count: u32,
+) -> anyhow::Result<Times> {
     let block = random_bytes(rt.alloc(), BLOCK_BYTES)?;
-    let large = overwrite(rt, &mut volume, LARGE, &block, count)?;
-    let small = overwrite(rt, &mut volume, SMALL, &block, count)?;
-    Ok(Overwritten {
-        large,
-        small,
-        disk: volume.into_disk(),
-    })
+    let large = time_overwrite(rt, volume, LARGE, &block, count)?;
+    let small = time_overwrite(rt, volume, SMALL, &block, count)?;
+    Ok(Times { large, small })
 }
 
 fn random_bytes(alloc: Global, count: u64) -> Result<Vec<u8>, AllocError> {
@@ -122,34 +122,58 @@ fn random_bytes(alloc: Global, count: u64) -> Result<Vec<u8>, AllocError> {
 
 /// Creates a file, writes these bytes to each of its MiB, and flushes.
 fn fill<D: Disk>(volume: &mut Volume<D>, file: Target, bytes: &[u8]) -> anyhow::Result<()> {
-    create(volume, file.name)?;
+    ensure!(create(volume, file.name), "a file was not created");
     for k in 0..file.mebibytes {
-        write(volume, file.name, k * FILE_BYTES, bytes)?;
+        write_at(volume, file, u64::from(k) * FILE_BYTES, bytes)?;
     }
-    flush(volume)
+    flush_all(volume)
 }
 
-/// Overwrites so many blocks of a file, drawn at random, and flushes.
-fn overwrite<D: Disk>(
+/// The us that it takes to overwrite so many blocks of a file, and to flush.
+fn time_overwrite<D: Disk>(
     rt: &impl Clock,
     volume: &mut Volume<D>,
     file: Target,
     block: &[u8],
     count: u32,
-) -> anyhow::Result<Duration> {
+) -> anyhow::Result<u64> {
     let start = Instant::now(rt)?;
+    overwrite(volume, file, block, count)?;
+    let nanos = nanos_since(rt, start)?;
+    Ok(nanos / 1000)
+}
+
+/// Overwrites so many blocks of a file, drawn at random, and flushes.
+fn overwrite<D: Disk>(
+    volume: &mut Volume<D>,
+    file: Target,
+    block: &[u8],
+    count: u32,
+) -> anyhow::Result<()> {
     for k in 0..count {
-        write(volume, file.name, place_of(file, u64::from(k)), block)?;
+        write_at(volume, file, place_of(file, k), block)?;
     }
-    flush(volume)?;
-    Ok(start.elapsed(rt)?)
+    flush_all(volume)
+}
+
+fn write_at<D: Disk>(
+    volume: &mut Volume<D>,
+    file: Target,
+    at: u64,
+    bytes: &[u8],
+) -> anyhow::Result<()> {
+    ensure!(write(volume, file.name, at, bytes), "a write was refused");
+    Ok(())
+}
+
+fn flush_all<D: Disk>(volume: &mut Volume<D>) -> anyhow::Result<()> {
+    ensure!(flush(volume), "a flush was refused");
+    Ok(())
 }
 
 /// Where a block of a file begins, drawn by a number.
-fn place_of(file: Target, number: u64) -> u64
-    ensures aligned { result % 4096 ≡ 0 }
-    ensures inside { result + 4096 ≤ 1048576 * file.mebibytes }
-{
-    let blocks = file.mebibytes * (FILE_BYTES / BLOCK_BYTES);
-    mixed(number) % blocks * BLOCK_BYTES
+fn place_of(file: Target, number: u32) -> u64 {
+    let blocks = u64::from(file.mebibytes) * (FILE_BYTES / BLOCK_BYTES);
+    let block = mixed(u64::from(number)) % blocks.max(1);
+    block.saturating_mul(BLOCK_BYTES)
 }

@@ -1,99 +1,70 @@
-// Figures, and the rates that they show.
-ghost use Rattle.std.specs.Prelude.{◌<◌};
+// Figures on standard error, the rates that they show, and the time behind them.
+use std::io;
+use std::rt::Clock;
+use std::time::Instant;
 
-use std::fmt;
-use std::time::Duration;
-
-/// A measured figure, which prints as `figure: NAME VALUE UNIT`.
-#[derive(Clone, Copy)]
-pub struct Figure {
-    pub name: &'static str,
-    pub value: u64,
-    pub unit: &'static str,
+/// The ns since a moment.
+pub fn nanos_since(rt: &impl Clock, start: Instant) -> io::Result<u64> {
+    let time = start.elapsed(rt)?;
+    Ok(u64::try_from(time.as_nanos()).unwrap_or(u64::MAX))
 }
 
-impl fmt::Display for Figure {
-    fn fmt<W: fmt::Write>(&self, f: &mut fmt::Formatter<W>) -> fmt::Result {
-        write!(f, "figure: {} {} {}", self.name, self.value, self.unit)
-    }
+/// Tells a measured figure, as `figure: NAME VALUE UNIT`.
+pub fn figure(rt: &impl Eprint, name: &str, value: u64, unit: &str) -> io::Result<()> {
+    eprintln!(rt; "figure: {name} {value} {unit}")
 }
 
-/// A figure in MB/s, of 10^6 bytes.
-pub fn rate(name: &'static str, bytes: u64, time: Duration) -> Figure {
-    let micros = time.as_micros().max(1);
-    Figure {
-        name,
-        value: (bytes as u128 / micros) as u64,
-        unit: "MB/s",
-    }
+/// Tells a figure in MB/s, of 10^6 bytes.
+pub fn rate(rt: &impl Eprint, name: &str, bytes: u64, nanos: u64) -> io::Result<()> {
+    let micros = nanos / 1000;
+    figure(rt, name, bytes / micros.max(1), "MB/s")
 }
 
-/// A figure in ns a call.
-pub fn cost(name: &'static str, calls: u32, time: Duration) -> Figure
-    requires { 0 < calls }
-{
-    let nanos = time.as_nanos() / u128::from(calls);
-    Figure {
-        name,
-        value: u64::try_from(nanos).unwrap_or(u64::MAX),
-        unit: "ns",
-    }
+/// Tells a figure in ns a call, of calls since a moment.
+pub fn cost(rt: &(impl Eprint + Clock), name: &str, calls: u32, start: Instant) -> io::Result<()> {
+    let nanos = nanos_since(rt, start)?;
+    figure(rt, name, nanos / u64::from(calls).max(1), "ns")
 }
 
-/// The cost of a call among so many, which prints as `figure: NAME.COUNT VALUE ns`.
-#[derive(Clone, Copy)]
-pub struct CostAmong {
-    pub name: &'static str,
-    pub count: u32,
-    pub time: Duration,
-    pub ghost some: { 0 < count },
+/// Tells the cost of a call among so many since a moment, as `figure: NAME.COUNT VALUE ns`.
+pub fn cost_among(
+    rt: &(impl Eprint + Clock),
+    name: &str,
+    count: u32,
+    start: Instant,
+) -> io::Result<()> {
+    let nanos = nanos_since(rt, start)?;
+    let value = nanos / u64::from(count).max(1);
+    eprintln!(rt; "figure: {name}.{count} {value} ns")
 }
 
-impl fmt::Display for CostAmong {
-    fn fmt<W: fmt::Write>(&self, f: &mut fmt::Formatter<W>) -> fmt::Result {
-        let nanos = self.time.as_nanos() / u128::from(self.count);
-        write!(f, "figure: {}.{} {} ns", self.name, self.count, nanos)
-    }
+/// Tells a figure in records/s, of records since a moment.
+pub fn per_second(
+    rt: &(impl Eprint + Clock),
+    name: &str,
+    records: u32,
+    start: Instant,
+) -> io::Result<()> {
+    let micros = nanos_since(rt, start)? / 1000;
+    let millions = u64::from(records) * 1_000_000;
+    figure(rt, name, millions / micros.max(1), "records/s")
 }
 
-/// A figure in records/s.
-pub fn per_second(name: &'static str, count: u32, time: Duration) -> Figure {
-    let micros = time.as_micros().max(1);
-    Figure {
-        name,
-        value: (u128::from(count) * 1_000_000 / micros) as u64,
-        unit: "records/s",
-    }
+/// Tells a figure for each of so many MiB.
+pub fn per_mebibyte(
+    rt: &impl Eprint,
+    name: &str,
+    value: u64,
+    mebibytes: u32,
+    unit: &str,
+) -> io::Result<()> {
+    let mebibytes = u64::from(mebibytes);
+    figure(rt, name, value / mebibytes.max(1), unit)
 }
 
-/// A figure for each of so many MiB.
-pub fn per_mebibyte(name: &'static str, value: u64, mebibytes: u64, unit: &'static str) -> Figure {
-    Figure {
-        name,
-        value: value / mebibytes.max(1),
-        unit,
-    }
-}
-
-/// A part of a whole to two decimals, cut off, which prints as `figure: NAME VALUE UNIT`.
-#[derive(Clone, Copy)]
-pub struct Portion {
-    pub name: &'static str,
-    pub part: u64,
-    pub whole: u64,
-    pub unit: &'static str,
-}
-
-impl fmt::Display for Portion {
-    fn fmt<W: fmt::Write>(&self, f: &mut fmt::Formatter<W>) -> fmt::Result {
-        let hundredths = u128::from(self.part) * 100 / u128::from(self.whole.max(1));
-        write!(
-            f,
-            "figure: {} {}.{:02} {}",
-            self.name,
-            hundredths / 100,
-            hundredths % 100,
-            self.unit
-        )
-    }
+/// Tells a part of a whole to two decimals, cut off, as `figure: NAME VALUE UNIT`.
+pub fn portion(rt: &impl Eprint, name: &str, part: u64, whole: u64, unit: &str) -> io::Result<()> {
+    let hundredths = part.saturating_mul(100) / whole.max(1);
+    let (ones, rest) = (hundredths / 100, hundredths % 100);
+    eprintln!(rt; "figure: {name} {ones}.{rest:02} {unit}")
 }

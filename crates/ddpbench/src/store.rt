@@ -1,19 +1,17 @@
 // Files stored through the program over a real file, beside a plain copy of their bytes, and written anew.
-ghost use Rattle.std.specs.Prelude.{◌≤◌, ◌<◌, ◌*◌, ◌^◌};
-
 use crate::counted::{Counted, Counts};
+use crate::files::clear;
 use crate::memory::most_resident;
-use crate::report::{Figure, Portion, per_mebibyte, rate};
+use crate::report::{figure, nanos_since, per_mebibyte, portion, rate};
 use crate::scripts::{FILE_BYTES, ingest_script, rewrite_script};
-use crate::served::served;
+use crate::served::{Served, time_run};
 use cmdlet_line::Words;
-use ddpsh::Outcome;
 use std::alloc::Global;
 use std::fs::{self, File};
-use std::io::Write;
+use std::io::{self, Write};
 use std::rt::{Clock as SystemTime, Files};
-use std::time::{Duration, Instant};
-use vdisk::{FileDisk, MemoryClock, MemorySink, MemorySource};
+use std::time::Instant;
+use vdisk::{Disk, FileDisk, MemoryClock, MemorySink, MemorySource};
 
 /// The image, and the copy, in the folder that the bench is started in.
 const IMAGE: &str = "ddpbench-store.img";
@@ -28,12 +26,11 @@ const MOST_CLUSTERS: u64 = 1_048_576;
 /// The clusters beside those of the files: what is written anew between two flushes finds room in them.
 const SPARE_CLUSTERS: u64 = 4352;
 
-/// What a run of the program over the image came to.
-#[derive(Drop)]
+/// What a run of the program over the image came to, and what it asked of the disk.
+#[derive(Clone, Copy)]
 struct Stored {
-    outcome: Outcome,
+    served: Served,
     counts: Counts,
-    time: Duration,
 }
 
 /// The names of the figures of a run.
@@ -66,117 +63,149 @@ const REWRITE: Names = Names {
 /// mounts the image again, and writes a MiB of each file anew. The time of a run has its format or mount in it.
 pub fn measure(
     rt: &(impl Print + Eprint + Alloc<A = Global> + SystemTime + Files<File = File>),
-    size: u64,
-) -> anyhow::Result<()>
-    requires { size ≤ 1024 }
-{
-    let alloc = rt.alloc();
-    let script = ingest_script(alloc, size)?;
-    let _gone = fs::remove_file(rt, IMAGE);
-    let copying = copy(rt, &script)?;
-    rt.eprintln(rate("store.copy", size.saturating_mul(FILE_BYTES), copying))?;
-    let before = most_resident(rt)?;
-    let stored = serve(rt, &format_words(alloc, size)?, MemorySource::new(script))?;
-    let memory = most_resident(rt)?.saturating_sub(before);
-    tell(rt, INGEST, size, &stored)?;
-    rt.eprintln(per_mebibyte("store.memory", memory, size, "KiB/MiB"))?;
-    let mounted = serve(rt, &mount_words(alloc)?, MemorySource::new(Vec::new(alloc)))?;
-    println!(rt; "store mounted {}", mounted.outcome.status)?;
-    rt.eprintln(Figure {
-        name: "store.mount",
-        value: u64::try_from(mounted.time.as_micros()).unwrap_or(u64::MAX),
-        unit: "us",
-    })?;
-    let script = rewrite_script(alloc, size)?;
-    let anew = serve(rt, &mount_words(alloc)?, MemorySource::new(script))?;
-    tell(rt, REWRITE, size, &anew)?;
+    size: u32,
+) -> anyhow::Result<()> {
+    clear(rt, IMAGE);
+    copy_and_ingest(rt, size)?;
+    mount(rt)?;
+    rewrite(rt, size)?;
     fs::remove_file(rt, IMAGE)?;
     fs::remove_file(rt, COPY)?;
     Ok(())
 }
 
-/// Tells what a run that wrote so many MiB came to.
-fn tell(
-    rt: &(impl Print + Eprint),
-    names: Names,
-    size: u64,
-    stored: &Stored,
+fn copy_and_ingest(
+    rt: &(impl Print + Eprint + Alloc<A = Global> + SystemTime + Files<File = File>),
+    size: u32,
 ) -> anyhow::Result<()> {
-    let counts = stored.counts;
-    println!(rt;
-        "store {} {size} lines {} status {} calls {} written {} commits {} syncs {}",
-        names.run,
-        stored.outcome.lines,
-        stored.outcome.status,
-        counts.calls,
-        counts.written,
-        counts.commits,
-        counts.syncs
-    )?;
-    let bytes = size.saturating_mul(FILE_BYTES);
-    rt.eprintln(rate(names.rate, bytes, stored.time))?;
-    rt.eprintln(per_mebibyte(names.calls, counts.calls, size, "calls/MiB"))?;
-    rt.eprintln(Portion {
-        name: names.commits,
-        part: counts.commits,
-        whole: size,
-        unit: "commits/MiB",
-    })?;
-    rt.eprintln(Portion {
-        name: names.syncs,
-        part: counts.syncs,
-        whole: size,
-        unit: "syncs/MiB",
-    })?;
+    let script = ingest_script(rt.alloc(), size)?;
+    copy(rt, &script, size)?;
+    ingest(rt, script, size)
+}
+
+/// Copies the bytes of so many files to a file of their own, and syncs it.
+fn copy(
+    rt: &(impl Eprint + SystemTime + Files<File = File>),
+    script: &[u8],
+    size: u32,
+) -> anyhow::Result<()> {
+    let start = Instant::now(rt)?;
+    write_copy(rt, script)?;
+    let nanos = nanos_since(rt, start)?;
+    rate(rt, "store.copy", bytes_of(size), nanos)?;
     Ok(())
+}
+
+fn write_copy(rt: &impl Files<File = File>, bytes: &[u8]) -> io::Result<()> {
+    let mut file = File::create(rt, COPY)?;
+    for piece in bytes.chunks(FILE_BYTES as usize) {
+        file.write_all(piece)?;
+    }
+    file.sync_all()
+}
+
+/// Stores the files in a new image, and tells the memory that it took too.
+fn ingest(
+    rt: &(impl Print + Eprint + Alloc<A = Global> + SystemTime + Files<File = File>),
+    script: Vec<u8>,
+    size: u32,
+) -> anyhow::Result<()> {
+    let before = most_resident(rt)?;
+    let stored = serve(rt, format_words(rt.alloc(), size)?, script)?;
+    let memory = most_resident(rt)?.saturating_sub(before);
+    tell(rt, INGEST, size, stored)?;
+    per_mebibyte(rt, "store.memory", memory, size, "KiB/MiB")?;
+    Ok(())
+}
+
+/// Mounts the image for a script with no line.
+fn mount(
+    rt: &(impl Print + Eprint + Alloc<A = Global> + SystemTime + Files<File = File>),
+) -> anyhow::Result<()> {
+    let words = mount_words(rt.alloc())?;
+    let served = serve(rt, words, Vec::new(rt.alloc()))?.served;
+    println!(rt; "store mounted {}", served.status)?;
+    figure(rt, "store.mount", served.nanos / 1000, "us")?;
+    Ok(())
+}
+
+/// Writes the files anew.
+fn rewrite(
+    rt: &(impl Print + Eprint + Alloc<A = Global> + SystemTime + Files<File = File>),
+    size: u32,
+) -> anyhow::Result<()> {
+    let script = rewrite_script(rt.alloc(), size)?;
+    let stored = serve(rt, mount_words(rt.alloc())?, script)?;
+    tell(rt, REWRITE, size, stored)?;
+    Ok(())
+}
+
+/// Tells what a run that wrote so many MiB came to.
+fn tell(rt: &(impl Print + Eprint), names: Names, size: u32, stored: Stored) -> io::Result<()> {
+    let counts = stored.counts;
+    tell_counts(rt, names.run, size, stored)?;
+    rate(rt, names.rate, bytes_of(size), stored.served.nanos)?;
+    per_mebibyte(rt, names.calls, counts.calls, size, "calls/MiB")?;
+    portion(
+        rt,
+        names.commits,
+        counts.commits,
+        u64::from(size),
+        "commits/MiB",
+    )?;
+    portion(rt, names.syncs, counts.syncs, u64::from(size), "syncs/MiB")
+}
+
+fn tell_counts(rt: &impl Print, run: &str, size: u32, stored: Stored) -> io::Result<()> {
+    let (served, counts) = (stored.served, stored.counts);
+    println!(rt;
+        "store {run} {size} lines {} status {} calls {} written {} commits {} syncs {}",
+        served.lines, served.status, counts.calls, counts.written, counts.commits, counts.syncs
+    )
+}
+
+/// The bytes of so many files.
+fn bytes_of(size: u32) -> u64 {
+    u64::from(size) * FILE_BYTES
 }
 
 /// Serves a script over the image.
 fn serve(
     rt: &(impl Alloc<A = Global> + SystemTime + Files<File = File>),
-    words: &Words,
-    mut script: MemorySource,
-) -> anyhow::Result<Stored> {
-    let alloc = rt.alloc();
-    let mut out = MemorySink::new(alloc);
-    let mut clock = MemoryClock::new(0);
-    let start = Instant::now(rt)?;
+    words: Words,
+    script: Vec<u8>,
+) -> io::Result<Stored> {
     let mut disk = Counted::new(FileDisk::open(rt, IMAGE, true));
-    let outcome = served(alloc, words, &mut script, &mut out, &mut disk, &mut clock);
-    let time = start.elapsed(rt)?;
-    Ok(Stored {
-        outcome,
-        counts: disk.counts,
-        time,
-    })
+    let served = serve_over(rt, &words, MemorySource::new(script), &mut disk)?;
+    let counts = disk.counts;
+    Ok(Stored { served, counts })
 }
 
-/// Copies the bytes to a file of their own, and syncs it.
-fn copy(
-    rt: &(impl Alloc<A = Global> + SystemTime + Files<File = File>),
-    bytes: &[u8],
-) -> anyhow::Result<Duration> {
-    let start = Instant::now(rt)?;
-    let mut file = File::create(rt, COPY)?;
-    for piece in bytes.chunks(FILE_BYTES as usize) {
-        file.write_all(piece)?;
-    }
-    file.sync_all()?;
-    Ok(start.elapsed(rt)?)
+fn serve_over<D: Disk>(
+    rt: &(impl Alloc<A = Global> + SystemTime),
+    words: &Words,
+    mut script: MemorySource,
+    disk: &mut D,
+) -> io::Result<Served> {
+    let mut out = MemorySink::new(rt.alloc());
+    let mut clock = MemoryClock::new(0);
+    time_run(rt, words, &mut script, &mut out, disk, &mut clock)
 }
 
 /// The words that format an image with room for so many files of a MiB.
-fn format_words(alloc: Global, size: u64) -> anyhow::Result<Words>
-    requires { size ≤ 1024 }
-{
-    let data = size * 257 + SPARE_CLUSTERS;
-    let clusters = (data + data / 15 + 64)
-        .max(LEAST_CLUSTERS)
-        .min(MOST_CLUSTERS);
+fn format_words(alloc: Global, size: u32) -> anyhow::Result<Words> {
+    let clusters = clusters_for(size);
     let mut words = mount_words(alloc)?;
     words.push("--format")?;
     words.push(&format!(in alloc; "{clusters}")?)?;
     Ok(words)
+}
+
+/// The clusters of an image with room for so many files of a MiB.
+fn clusters_for(size: u32) -> u64 {
+    let data = u64::from(size) * 257 + SPARE_CLUSTERS;
+    let clusters = data + data / 15 + 64;
+    clusters.max(LEAST_CLUSTERS).min(MOST_CLUSTERS)
 }
 
 /// The words that mount the image.
