@@ -18,8 +18,6 @@ mod put;
 mod serving;
 mod session;
 mod stops;
-#[cfg(test)]
-mod tests;
 mod top;
 
 pub use acks::{Ack, Acks};

@@ -7,8 +7,6 @@ mod hashing;
 mod laws;
 mod opening;
 mod reads;
-#[cfg(test)]
-mod tests;
 mod volume;
 
 pub use laws::{volume_is_lawful, what_is_wanting_is_spent};
