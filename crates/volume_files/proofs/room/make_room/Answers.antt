@@ -47,14 +47,14 @@ returns-then-grows-half g c =
     } in
     let ids : c.args.draws ≡ true → next_id_of (tables_now t) ≡ last_id → ⊥ =
     elim c.else-draws.branch [
-      else-draws-via-then-draws+else-stored_next_id-eq-LAST_ID w ↦ λ draws last.
+      | else-draws-via-then-draws+else-stored_next_id-eq-LAST_ID w ↦ λ draws last.
           w.if-stored_next_id-eq-LAST_ID.false (w.stored_next_id.ensures ∙ last)
-    | else-draws-via-else-draws w ↦ λ draws last. differ draws w.if-draws.false
+      | else-draws-via-else-draws w ↦ λ draws last. differ draws w.if-draws.false
     ] in
     let long : half_bytes t.clusters < checkpoint_of t + c.args.grows = elim c.then-grows-half.branch [
-      then-grows-half-via-then-grows-half w ↦ omega (arith, w.if-grows-half.true)
-    | then-grows-half-via-else-grows-half+then-checkpoint_bytes-half w ↦
-        omega (arith, w.checkpoint_bytes.ensures, w.if-checkpoint_bytes-half.true)
+      | then-grows-half-via-then-grows-half w ↦ omega (arith, w.if-grows-half.true)
+      | then-grows-half-via-else-grows-half+then-checkpoint_bytes-half w ↦
+          omega (arith, w.checkpoint_bytes.ensures, w.if-checkpoint_bytes-half.true)
     ] in
     record {
       refused = inl (wants_table t n ids long);
@@ -85,9 +85,9 @@ returns g c =
     } in
     let ids : c.args.draws ≡ true → next_id_of (tables_now t) ≡ last_id → ⊥ =
     elim c.else-draws.branch [
-      else-draws-via-then-draws+else-stored_next_id-eq-LAST_ID w ↦ λ draws last.
+      | else-draws-via-then-draws+else-stored_next_id-eq-LAST_ID w ↦ λ draws last.
           w.if-stored_next_id-eq-LAST_ID.false (w.stored_next_id.ensures ∙ last)
-    | else-draws-via-else-draws w ↦ λ draws last. differ draws w.if-draws.false
+      | else-draws-via-else-draws w ↦ λ draws last. differ draws w.if-draws.false
     ] in
     let fits : checkpoint_of t + c.args.grows ≤ half_bytes t.clusters = omega arith in
     let count = free_counted t n c.requires.sound c.requires.running in

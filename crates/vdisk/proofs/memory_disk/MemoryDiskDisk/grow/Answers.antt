@@ -32,11 +32,11 @@ returns-then-self c =
       image = grown_same c.args.to x c.requires;
       crash = still_grows x x m.events.items m.events.items refl refl c.args.to c.requires;
       time = record {
-          adds = record { later = omega arith; since = λ t d le left. inl left };
-          keeps = λ t d le left. left;
-          tells = refl;
-          rises = λ before. omega (arith, before, c.if-self.true);
-        };
+        adds = record { later = omega arith; since = λ t d le left. inl left };
+        keeps = λ t d le left. left;
+        tells = refl;
+        rises = λ before. omega (arith, before, c.if-self.true);
+      };
       end = λ last. refl;
       same = tt;
       cause = counted_cause m.faults c.count_fault.new.faults c.count_fault.result m.counted c.count_fault.ensures;
@@ -58,11 +58,11 @@ returns-then-fails c =
       image = grown_same c.args.to x c.requires;
       crash = still_grows x x m.events.items m.events.items refl refl c.args.to c.requires;
       time = record {
-          adds = record { later = omega arith; since = λ t d le left. inl left };
-          keeps = λ t d le left. left;
-          tells = refl;
-          rises = λ before. omega arith;
-        };
+        adds = record { later = omega arith; since = λ t d le left. inl left };
+        keeps = λ t d le left. left;
+        tells = refl;
+        rises = λ before. omega arith;
+      };
       end = λ last. refl;
       same = tt;
       cause = counted_cause m.faults counted.new.faults counted.result m.counted counted.ensures;
@@ -88,18 +88,18 @@ returns-in-Ok c =
       grown = s.size;
       zeros = s.filled;
       image = record {
-          front = s.image;
-          no_shorter = omega (arith, s.size, c.requires);
-          no_longer = omega (arith, s.size);
-        };
+        front = s.image;
+        no_shorter = omega (arith, s.size, c.requires);
+        no_longer = omega (arith, s.size);
+      };
       crash = subst (λ (es : List Event). Follows (GrownTo c.args.to) (Leaves x (reverse old)) (Leaves y es)) (sym last)
           (crash_grew c.args.to (length x) x y m.moment (reverse old) refl s.image s.size c.requires);
       time = record {
-          adds = record { later = omega arith; since = goes.since };
-          keeps = goes.keeps;
-          tells = refl;
-          rises = λ before. omega arith;
-        };
+        adds = record { later = omega arith; since = goes.since };
+        keeps = goes.keeps;
+        tells = refl;
+        rises = λ before. omega arith;
+      };
       end = λ at_end. absurd (c.if-self.false at_end);
       same = tt;
       cause = record { later = omega arith; failed = tt };
@@ -128,11 +128,11 @@ returns-in-Err c =
       image = still_grown x y old new s.err s.err_events c.args.to c.requires;
       crash = still_grows x y old new s.err s.err_events c.args.to c.requires;
       time = record {
-          adds = record { later = omega arith; since = goes.since };
-          keeps = goes.keeps;
-          tells = refl;
-          rises = λ before. omega arith;
-        };
+        adds = record { later = omega arith; since = goes.since };
+        keeps = goes.keeps;
+        tells = refl;
+        rises = λ before. omega arith;
+      };
       end = λ last. refl;
       same = tt;
       cause = counted_cause m.faults counted.new.faults counted.result m.counted counted.ensures;

@@ -31,11 +31,11 @@ returns-then-self c =
       image = refl;
       crash = λ d left. left;
       time = record {
-          adds = record { later = omega arith; since = λ t d le left. inl left };
-          keeps = λ t d le left. left;
-          tells = refl;
-          rises = λ before. omega (arith, before, c.if-self.true);
-        };
+        adds = record { later = omega arith; since = λ t d le left. inl left };
+        keeps = λ t d le left. left;
+        tells = refl;
+        rises = λ before. omega (arith, before, c.if-self.true);
+      };
       end = λ last. refl;
       same = tt;
       cause = counted_cause m.faults counted.new.faults counted.result m.counted counted.ensures;
@@ -55,11 +55,11 @@ returns-then-fails c =
       image = refl;
       crash = λ d left. left;
       time = record {
-          adds = record { later = omega arith; since = λ t d le left. inl left };
-          keeps = λ t d le left. left;
-          tells = refl;
-          rises = λ before. omega arith;
-        };
+        adds = record { later = omega arith; since = λ t d le left. inl left };
+        keeps = λ t d le left. left;
+        tells = refl;
+        rises = λ before. omega arith;
+      };
       end = λ last. refl;
       same = tt;
       cause = counted_cause m.faults counted.new.faults counted.result m.counted counted.ensures;
@@ -88,11 +88,11 @@ returns-in-Ok c =
       crash = λ d left. subst (λ (l : List ℕ). Leaves x (reverse old) l) (sym (durable d left))
           (record { size = refl; clean = λ i out. refl });
       time = record {
-          adds = record { later = omega arith; since = goes.since };
-          keeps = goes.keeps;
-          tells = refl;
-          rises = λ before. omega arith;
-        };
+        adds = record { later = omega arith; since = goes.since };
+        keeps = goes.keeps;
+        tells = refl;
+        rises = λ before. omega arith;
+      };
       end = λ last. absurd (c.if-self.false last);
       same = tt;
       cause = record { later = omega arith; failed = tt };
@@ -117,11 +117,11 @@ returns-in-Err c =
       image = refl;
       crash = still_left x x old new refl s.err;
       time = record {
-          adds = record { later = omega arith; since = goes.since };
-          keeps = goes.keeps;
-          tells = refl;
-          rises = λ before. omega arith;
-        };
+        adds = record { later = omega arith; since = goes.since };
+        keeps = goes.keeps;
+        tells = refl;
+        rises = λ before. omega arith;
+      };
       end = λ last. refl;
       same = tt;
       cause = counted_cause m.faults counted.new.faults counted.result m.counted counted.ensures;

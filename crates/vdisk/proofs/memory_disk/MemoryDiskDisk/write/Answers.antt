@@ -39,11 +39,11 @@ returns-then-self c =
       image = unchanged c.args.at n x;
       crash = still_changes x x m.events.items m.events.items refl refl c.args.at n;
       time = record {
-          adds = record { later = omega arith; since = λ t d le left. inl left };
-          keeps = λ t d le left. left;
-          tells = refl;
-          rises = λ before. omega (arith, before, c.if-self.true);
-        };
+        adds = record { later = omega arith; since = λ t d le left. inl left };
+        keeps = λ t d le left. left;
+        tells = refl;
+        rises = λ before. omega (arith, before, c.if-self.true);
+      };
       end = λ last. refl;
       same = tt;
       cause = counted_cause m.faults c.count_fault.new.faults c.count_fault.result m.counted c.count_fault.ensures;
@@ -77,11 +77,11 @@ returns-in-Ok c =
       image = change;
       crash = wrote_crash c.args.at n m.moment x y was.0 old new c.requires change was.1 was.2;
       time = record {
-          adds = record { later = omega arith; since = goes.since };
-          keeps = goes.keeps;
-          tells = refl;
-          rises = λ before. omega arith;
-        };
+        adds = record { later = omega arith; since = goes.since };
+        keeps = goes.keeps;
+        tells = refl;
+        rises = λ before. omega arith;
+      };
       end = λ last. refl;
       same = tt;
       cause = counted_cause m.faults counted.new.faults counted.result m.counted counted.ensures;
@@ -117,11 +117,11 @@ returns-in-Ok-2 c =
       image = change;
       crash = wrote_crash c.args.at n m.moment x y was.0 old new c.requires change was.1 was.2;
       time = record {
-          adds = record { later = omega arith; since = goes.since };
-          keeps = goes.keeps;
-          tells = refl;
-          rises = λ before. omega arith;
-        };
+        adds = record { later = omega arith; since = goes.since };
+        keeps = goes.keeps;
+        tells = refl;
+        rises = λ before. omega arith;
+      };
       end = λ last. absurd (c.if-self.false last);
       same = tt;
       cause = record { later = omega arith; failed = tt };
@@ -151,11 +151,11 @@ returns-in-Err c =
       image = still_changed x y old new s.err s.err_events c.args.at n;
       crash = still_changes x y old new s.err s.err_events c.args.at n;
       time = record {
-          adds = record { later = omega arith; since = goes.since };
-          keeps = goes.keeps;
-          tells = refl;
-          rises = λ before. omega arith;
-        };
+        adds = record { later = omega arith; since = goes.since };
+        keeps = goes.keeps;
+        tells = refl;
+        rises = λ before. omega arith;
+      };
       end = λ last. refl;
       same = tt;
       cause = counted_cause m.faults counted.new.faults counted.result m.counted counted.ensures;
