@@ -3,11 +3,12 @@ use Rattle.std.proofs.lemmas.Result.{on_ok_weaker}
 use Rattle.cluster_space.specs.declared.state.State.{State}
 use Rattle.cluster_space.specs.States.{free_in, deferred_in}
 use Rattle.volume_inside.specs.Shows.{Kept}
-use Rattle.volume_tables.specs.Tables.{states_of, view_now, area_of, GoesOn}
+use Rattle.volume_inside.specs.View.{view}
+use Rattle.volume_tables.specs.Tables.{states_of, disk_of, view_now, area_of, would_wear, GoesOn}
 use Rattle.volume_tables.proofs.Freed.{both_ok}
 use Rattle.volume_tables.proofs.Roomed.{unless_stopped, released_counts}
 use Rattle.volume_files.proofs.Endured.{endures_room}
-use Rattle.volume_core.proofs.Flushed.{kept_now, sound_still}
+use Rattle.volume_core.proofs.Flushed.{flush_leaves, flush_reply, flush_want, kept_now, sound_still}
 use Rattle.plain_volume.specs.declared.call.Call.TheVariants.{Flush}
 use Rattle.volume_core.proofs.Adding.{commit_adds}
 use Rattle.volume_core.proofs.volume.Volume.flush.Goals as goal
@@ -52,3 +53,18 @@ pub returns-clause-adds : goal.returns-clause-adds
 returns-clause-adds g c =
     let s = c.commit.ensures in
     commit_adds _ _ Flush refl s.now s.epoch s.tires
+
+pub returns-clause-reply : goal.returns-clause-reply
+returns-clause-reply g c =
+    let t = c.args.self.now.tables in
+    let s = c.commit.ensures in
+    flush_reply (view_now t) (would_wear t) (disk_of t).faults (disk_of c.commit.new.self).faults c.commit.result
+    s.worn s.refused (λ f. (s.failed f).0)
+
+pub returns-clause-left : goal.returns-clause-left
+returns-clause-left g c =
+    flush_leaves (view_now c.args.self.now.tables) (view_now c.commit.new.self) c.commit.result
+    (ap view c.commit.ensures.inside)
+
+pub returns-clause-want : goal.returns-clause-want
+returns-clause-want g c = flush_want (would_wear c.args.self.now.tables)
