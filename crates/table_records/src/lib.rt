@@ -12,8 +12,6 @@ mod records;
 mod settings;
 mod table;
 mod tables;
-#[cfg(test)]
-mod tests;
 mod texts;
 mod well_formed;
 

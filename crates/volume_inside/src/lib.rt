@@ -15,8 +15,6 @@ mod mount_fault;
 mod rows;
 mod rules;
 mod superblock;
-#[cfg(test)]
-mod tests;
 
 pub use changes::{
     extents_over_their_own_clusters_keep_the_rules, files_that_are_deleted_keep_the_rules,

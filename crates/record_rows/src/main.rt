@@ -1,0 +1,25 @@
+//! Runs rows over records: `record_rows FILE..`. What the files hold: data/README.md.
+//!
+//! A row is a list of steps, each with what it is to tell. Each file has one line of output, with how many rows it
+//! has, and each step that tells otherwise has one before it.
+#![tactic(auto)]
+
+mod records;
+mod rows;
+mod settings;
+mod spelled;
+mod steps;
+mod words;
+
+use std::{env, fs};
+
+fn main(rt: HostRuntime) -> anyhow::Result<()> {
+    let mut paths = env::args(&rt)?;
+    let _program = paths.next();
+    for path in paths {
+        let text = fs::read(&rt, &path)?;
+        let told = rows::told(rt.alloc(), &text)?;
+        println!(rt; "{told}: {path}")?;
+    }
+    Ok(())
+}
