@@ -28,8 +28,6 @@ mod record;
 mod records;
 mod staging;
 mod stream;
-#[cfg(test)]
-mod tests;
 mod turn_over;
 
 pub use fault::MetaFault;
