@@ -1,4 +1,5 @@
-//! Stops scripts that cut, rename and delete files at each call of their disk: `ddp_cut_crashes FILE..`. `data/README.md` tells of the files.
+//! Stops scripts that cut, rename and delete files at each call of their disk: `ddp_cut_crashes FILE..`.
+//! `data/README.md` tells of the files.
 //!
 //! Each file has one line of output, with how many rows it has; a row that differs has one before it.
 #![tactic(auto)]

@@ -1,6 +1,4 @@
 // Images that are changed before a run.
-ghost use Rattle.std.specs.Prelude.{◌≤◌, ◌*◌, ◌+◌, ◌≡◌, length, false};
-
 use ddp_running::{Outside, Run, Setting};
 use meta_log::MetaLog;
 use std::alloc::Global;
