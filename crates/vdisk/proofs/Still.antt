@@ -1,5 +1,5 @@
 -- A call of a disk in memory that changed neither its bytes nor its record.
-use Rattle.std.proofs.Common.{◌≡◌, ℕ, ◌+◌, ◌≤◌, ◌<◌, ◌^◌, List, length, reverse, get_or, Err, sym, ap, subst, arith, refl}
+use Rattle.std.proofs.Common.{◌≡◌, ℕ, ◌≤◌, ◌<◌, ◌^◌, List, length, reverse, get_or, Err, sym, ap, subst, arith, refl}
 use Rattle.std.proofs.lemmas.List.{take_all}
 use Rattle.vdisk.specs.Causes.{HasCause}
 use Rattle.vdisk.specs.Disk.{ChangedWithin, GrownTo, Follows}

@@ -1,4 +1,4 @@
-use Rattle.std.proofs.Common.{◌≡◌, ◌+◌, ◌/◌, false, true, inl, inr, refl, subst, List, ℕ, sym, ◌∙◌, ap, length, take, arith}
+use Rattle.std.proofs.Common.{◌≡◌, ◌+◌, false, true, inl, inr, refl, subst, List, ℕ, sym, ◌∙◌, ap, length, take, arith}
 use Rattle.std.proofs.lemmas.List.{take_all}
 use Rattle.vdisk.specs.Disk.{ChangedWithin}
 use Rattle.vdisk.specs.Past.{put}
