@@ -1,6 +1,6 @@
 // Settings over commits and mounts.
-ghost use Rattle.std.specs.Prelude.{◌≡◌, false, IsTrue};
-ghost use Rattle.volume_inside.specs.Rules.{RulesHold, AreSettings};
+ghost use Rattle.std.specs.Prelude.{◌≡◌, false};
+ghost use Rattle.volume_inside.specs.Rules.{RulesHold};
 ghost use Rattle.volume_tables.specs.Tables.{tables_now, stopped};
 
 use super::fresh;
@@ -10,23 +10,14 @@ use plain_volume::Fault;
 use std::alloc::Global;
 use std::test::Fail;
 use vdisk::{Disk, MemoryDisk};
+use volume_inside::settings_hold;
 
-/// Whether the numbers of settings are in their ranges.
-fn are_in_range(settings: &Settings) -> bool
-    ensures { IsTrue result → AreSettings settings.now }
-{
-    32_768 <= settings.minimum_size
-        && settings.minimum_size <= 1_073_741_824
-        && settings.age_days <= 36_500
-        && 2 <= settings.threshold
-}
-
-/// Sets settings and makes them durable, where their numbers are in their ranges.
+/// Sets settings and makes them durable, where they meet their rule.
 fn set<D: Disk>(tables: &mut Tables<D>, alloc: Global, settings: Settings) -> Result<(), Fault>
     requires rules { RulesHold tables.old.clusters (tables_now tables.old) }
     requires running { stopped tables.old ≡ false }
 {
-    if !are_in_range(&settings) {
+    if !settings_hold(&settings) {
         return Err(Fault::BadName);
     }
     settings_in_their_ranges_keep_the_rules();
@@ -103,7 +94,7 @@ fn longest(alloc: Global) -> Result<Settings, Fail> {
     settings.age_days = 36_500;
     settings.threshold = u32::MAX;
     settings.folders = copies(alloc, &text, 1)?;
-    settings.types = copies(alloc, b"", 4096)?;
+    settings.types = copies(alloc, b"zz", 2048)?;
     Ok(settings)
 }
 

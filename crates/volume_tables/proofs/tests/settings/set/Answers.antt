@@ -15,4 +15,4 @@ commit-requires-clause-rules g c =
       sym (c.in_ok-set_settings.ensures.ok ∙ ap (λ (q : Typed). with_settings s q) c.ensure_room.ensures.now) i,
     ))
     (c.settings_in_their_ranges_keep_the_rules.ensures t.clusters (tables_now t) s c.requires.rules
-    (c.are_in_range.ensures c.if-not-are_in_range.false))
+    (c.settings_hold.ensures.0 c.if-not-settings_hold.false))
