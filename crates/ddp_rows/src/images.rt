@@ -54,6 +54,14 @@ fn stage(log: &mut MetaLog<MemoryDisk>, key: &[u8], value: &[u8]) -> anyhow::Res
     }
 }
 
+/// Drops the records from a key on and below another.
+fn drop_range(log: &mut MetaLog<MemoryDisk>, from: &[u8], to: &[u8]) -> anyhow::Result<()> {
+    match log.stage_drop(from, to) {
+        Ok(()) => Ok(()),
+        Err(_fault) => Err(anyhow::anyhow!("records are not dropped")),
+    }
+}
+
 /// Commits what is staged, and hands the disk back.
 fn committed(log: MetaLog<MemoryDisk>) -> anyhow::Result<MemoryDisk> {
     let mut log = log;
@@ -71,11 +79,33 @@ fn with_records(
 ) -> anyhow::Result<MemoryDisk> {
     let mut log = opened(alloc, disk)?;
     for setting in settings {
-        if let Setting::Record(key, value) = setting {
-            stage(&mut log, key, value)?;
+        match setting {
+            Setting::Record(key, value) => stage(&mut log, key, value)?,
+            Setting::Dropped(from, to) => drop_range(&mut log, from, to)?,
+            _ => {}
         }
     }
     committed(log)
+}
+
+/// Does an image have these bytes at a place?
+fn is_at(image: &[u8], at: u64, bytes: &[u8]) -> bool {
+    match image.get(at as usize..) {
+        Some(rest) => rest.starts_with(bytes),
+        None => false,
+    }
+}
+
+/// Does the image that is left hold the bytes that the run's settings name?
+pub fn holds(run: &Run, left: &[u8]) -> bool {
+    for setting in &run.settings {
+        if let Setting::Holds(at, bytes) = setting {
+            if !is_at(left, *at, bytes) {
+                return false;
+            }
+        }
+    }
+    true
 }
 
 /// The disk of a run: the image that is left, as the run's settings change it.
@@ -84,7 +114,7 @@ pub fn disk_for(alloc: Global, run: &Run, left: &[u8]) -> anyhow::Result<MemoryD
     let mut has_records = false;
     for setting in &run.settings {
         change(&mut image, setting);
-        has_records |= matches!(setting, Setting::Record(_, _));
+        has_records |= matches!(setting, Setting::Record(_, _) | Setting::Dropped(_, _));
     }
     let mut disk = MemoryDisk::with_image(alloc, image);
     if has_records {

@@ -1,5 +1,5 @@
 // A table of rows is run.
-use crate::images::disk_for;
+use crate::images::{disk_for, holds};
 use ddp_running::{Plain, Row, Run, Setting, Way, fresh, is_as_told, make_run, rows_of};
 use row_files::Tally;
 use std::alloc::Global;
@@ -32,7 +32,7 @@ fn comes_to(alloc: Global, row: &Row, image: &[u8], way: Way) -> anyhow::Result<
     for run in &row.runs {
         let mut disk = disk_for(alloc, run, &left)?;
         let ran = make_run(alloc, run, way, &mut disk)?;
-        if !is_as_told(run, &mut plain, &ran)? {
+        if !holds(run, &left) || !is_as_told(run, &mut plain, &ran)? {
             return Ok(false);
         }
         left = disk.image().to_vec(alloc)?;

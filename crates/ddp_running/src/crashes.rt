@@ -77,6 +77,25 @@ fn leaves_a_front(
     Ok(true)
 }
 
+/// Is each image that a crash may leave of a run that opened no volume the one that was there before? Where a volume
+/// was to be made on a disk with no bytes, it may be refused too.
+fn leaves_what_was(
+    alloc: Global,
+    reading: &Run,
+    fronts: &[Vec<u8>],
+    left: &MemoryDisk,
+    is_made: bool,
+) -> anyhow::Result<bool> {
+    for pick in 0..PICKS {
+        let read = read_back(alloc, reading, left, pick)?;
+        let is_refused = is_made && read.outcome.status == 5;
+        if !is_refused && !is_a_front(fronts, 0, 0, &read.printed) {
+            return Ok(false);
+        }
+    }
+    Ok(true)
+}
+
 /// The run that reads back.
 fn reading_of(alloc: Global, run: &Run) -> anyhow::Result<Run> {
     let mut reading = Run::new(alloc);
@@ -107,10 +126,19 @@ pub fn survives(alloc: Global, row: &Row, image: &[u8]) -> anyhow::Result<bool> 
     };
     let fronts = fronts_of(alloc, &run.script, &run.reading)?;
     let reading = reading_of(alloc, run)?;
+    let image = if run.is_blank() {
+        b"".as_slice()
+    } else {
+        image
+    };
     for stop in 1..MOST_STOPS {
         let (ran, disk) = stopped(alloc, run, image, stop)?;
-        let is_open = ran.outcome.opened.is_some();
-        if is_open && !leaves_a_front(alloc, &reading, &fronts, &disk, &ran.outcome)? {
+        let is_well = if ran.outcome.opened.is_some() {
+            leaves_a_front(alloc, &reading, &fronts, &disk, &ran.outcome)?
+        } else {
+            leaves_what_was(alloc, &reading, &fronts, &disk, run.is_blank())?
+        };
+        if !is_well {
             return Ok(false);
         }
         if ran.outcome.status != 3 {

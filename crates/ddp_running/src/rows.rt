@@ -43,6 +43,16 @@ impl Run {
         }
     }
 
+    /// Has the disk no bytes?
+    pub fn is_blank(&self) -> bool {
+        for setting in &self.settings {
+            if let Setting::Blank = setting {
+                return true;
+            }
+        }
+        false
+    }
+
     /// The call from which on a part of the outside is to fail; 0 where it is not.
     pub fn fails_from(&self, outside: Outside) -> u64 {
         for setting in &self.settings {

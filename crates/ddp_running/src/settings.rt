@@ -26,6 +26,10 @@ pub enum Setting {
     Fill(u64, u64, u8),
     /// The journal has this value at a key.
     Record(Vec<u8>, Vec<u8>),
+    /// The journal has no key from one on and below another.
+    Dropped(Vec<u8>, Vec<u8>),
+    /// The image has these bytes at a place.
+    Holds(u64, Vec<u8>),
     /// Each call of a part fails, from the k-th on.
     Fail(Outside, u64),
     /// The run is made with this portion alone.
@@ -90,14 +94,29 @@ fn outside_of(text: &[u8]) -> anyhow::Result<Outside> {
     })
 }
 
+/// The bytes that a word has in hexadecimal digits.
+fn digits_of(alloc: Global, text: &[u8]) -> anyhow::Result<Vec<u8>> {
+    let mut bytes = Vec::new(alloc);
+    if push_hex(&mut bytes, text)? {
+        Ok(bytes)
+    } else {
+        Err(anyhow::anyhow!("bytes of a setting are not in hexadecimal digits"))
+    }
+}
+
 fn record_of(alloc: Global, text: &[u8]) -> anyhow::Result<Setting> {
     let (key, value) = split_word(text);
-    let (mut key_bytes, mut value_bytes) = (Vec::new(alloc), Vec::new(alloc));
-    if push_hex(&mut key_bytes, key)? && push_hex(&mut value_bytes, value)? {
-        Ok(Setting::Record(key_bytes, value_bytes))
-    } else {
-        Err(anyhow::anyhow!("a record is not in hexadecimal digits"))
-    }
+    Ok(Setting::Record(digits_of(alloc, key)?, digits_of(alloc, value)?))
+}
+
+fn dropped_of(alloc: Global, text: &[u8]) -> anyhow::Result<Setting> {
+    let (from, to) = split_word(text);
+    Ok(Setting::Dropped(digits_of(alloc, from)?, digits_of(alloc, to)?))
+}
+
+fn holds_of(alloc: Global, text: &[u8]) -> anyhow::Result<Setting> {
+    let (at, bytes) = split_word(text);
+    Ok(Setting::Holds(number_of(at)?, digits_of(alloc, bytes)?))
 }
 
 fn fill_of(text: &[u8]) -> anyhow::Result<Setting> {
@@ -137,6 +156,10 @@ pub fn setting_of(alloc: Global, text: &[u8]) -> anyhow::Result<Setting> {
         Ok(Setting::NoSource)
     } else if name == b"record".as_slice() {
         record_of(alloc, rest)
+    } else if name == b"drop".as_slice() {
+        dropped_of(alloc, rest)
+    } else if name == b"holds".as_slice() {
+        holds_of(alloc, rest)
     } else if name == b"fill".as_slice() {
         fill_of(rest)
     } else {

@@ -22,8 +22,6 @@ mod room;
 mod setters;
 mod settings;
 mod tables;
-#[cfg(test)]
-mod tests;
 
 pub use client::write_block;
 pub use ids::LAST_ID;
