@@ -20,16 +20,13 @@ pub struct Held {
 impl Held {
     /// Counts an image.
     fn count(&mut self, found: Option<[u64; 4]>, old: Option<[u64; 4]>, new: Option<[u64; 4]>) {
-        let counted = if found.is_none() {
-            &mut self.other
-        } else if found == old {
-            &mut self.old
-        } else if found == new {
-            &mut self.new
+        if found.is_some() && found == old {
+            self.old = self.old.saturating_add(1);
+        } else if found.is_some() && found == new {
+            self.new = self.new.saturating_add(1);
         } else {
-            &mut self.other
-        };
-        *counted = counted.saturating_add(1);
+            self.other = self.other.saturating_add(1);
+        }
     }
 }
 
