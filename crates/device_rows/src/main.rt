@@ -16,8 +16,11 @@ use std::alloc::Global;
 use std::fs::File;
 use std::rt::{Clock, Files};
 use std::{env, fs};
+use vdisk::StandardStreams;
 
 fn main(rt: HostRuntime) -> anyhow::Result<()> {
+    // Taken first and kept to the end: no file of a row gets the number of a stream that is closed.
+    let _streams = StandardStreams::hold(&rt)?;
     let mut paths = env::args(&rt)?;
     let _program = paths.next();
     for path in paths {
