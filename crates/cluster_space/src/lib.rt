@@ -3,12 +3,13 @@
 //! A used cluster that is given up is deferred first, and is free again only once it is released: what was
 //! stored before may still name it. Contracts see a `Space` as the list of the states of its clusters, so the
 //! three sets are disjoint and cover all clusters. Only `Space::new` takes memory, 8 bytes a cluster, and every
-//! other call takes constant time.
+//! other call takes constant time, but for `Space::free_run`, which takes the time of the run that was asked for.
 #![tactic(auto)]
 
 mod laws;
 mod memory;
 mod places;
+mod run;
 mod space;
 mod state;
 
@@ -17,5 +18,6 @@ pub use laws::{
     the_states_are_disjoint,
 };
 pub use memory::Memory;
+pub use run::Run;
 pub use space::Space;
 pub use state::State;

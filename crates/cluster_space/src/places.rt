@@ -1,5 +1,5 @@
 // The clusters in an order that changes: each has a place of its own.
-ghost use Rattle.std.specs.Prelude.{◌≡◌, ◌<◌, length, slice_index, IfOk};
+ghost use Rattle.std.specs.Prelude.{◌≡◌, ◌<◌, length, slice_index, IfOk, IfSome};
 ghost use Rattle.cluster_space.specs.Places.{exchanged, IsAscending, IsAt, IsMove};
 
 use crate::Memory;
@@ -54,6 +54,17 @@ impl Places {
         ensures within { result < length self.now }
     {
         self.place[cluster as usize]
+    }
+
+    /// The place of a cluster, if there is that cluster.
+    pub fn find(&self, cluster: u32) -> Option<u32>
+        ensures { IfSome result (λ place. (cluster < length self.now) × (place ≡ slice_index self.now cluster)) }
+    {
+        if (cluster as usize) < self.place.len() {
+            Some(self.place_of(cluster))
+        } else {
+            None
+        }
     }
 
     /// Moves a cluster to a place. The cluster there goes to the place that it leaves.

@@ -1,9 +1,10 @@
 // The states of all clusters.
-ghost use Rattle.std.specs.Prelude.{◌≡◌, ◌<◌, ℕ, length, map, replicate, slice_set, slice_index_or, IfOk, IfSome, IfNone};
+ghost use Rattle.std.specs.Prelude.{◌≡◌, ◌<◌, ◌≤◌, ◌+◌, ℕ, IsTrue, length, map, replicate, slice_set};
+ghost use Rattle.std.specs.Prelude.{slice_index_or, IfOk, IfSome, IfNone};
 ghost use Rattle.cluster_space.specs.States.{IsIn, free_in, deferred_in, released};
 
 use crate::places::Places;
-use crate::{Memory, State};
+use crate::{Memory, Run, State};
 use std::alloc::Global;
 use std::marker::Model;
 
@@ -14,6 +15,8 @@ pub struct Space {
     places: Places,
     free: u32,
     deferred: u32,
+    /// The cluster behind the one that was used last, where the search for free ones begins.
+    next: u32,
 }
 
 impl Model for Space {
@@ -38,6 +41,7 @@ impl Space {
             places: Places::new(alloc, clusters)?,
             free: clusters,
             deferred: 0,
+            next: 0,
         })
     }
 
@@ -70,6 +74,70 @@ impl Space {
         }
     }
 
+    /// Whether there is a cluster of this number that is free.
+    fn is_free(&self, cluster: u32) -> bool
+        ensures { IsTrue result → IsIn self.now cluster State.Free }
+    {
+        match self.places.find(cluster) {
+            Some(place) => place < self.free,
+            None => false,
+        }
+    }
+
+    /// Whether the cluster so many behind another one is free.
+    fn is_free_behind(&self, cluster: u32, count: u32) -> bool
+        ensures { IsTrue result → IsIn self.now (cluster + count) State.Free }
+    {
+        match cluster.checked_add(count) {
+            Some(behind) => self.is_free(behind),
+            None => false,
+        }
+    }
+
+    /// The lowest of the free clusters beside a free one and below it, but at most so many clusters below.
+    fn lowest_beside(&self, cluster: u32, most: u32) -> u32
+        requires { IsIn self.now cluster State.Free }
+        ensures { IsIn self.now result State.Free }
+    {
+        let mut lowest = cluster;
+        let mut steps = most;
+        while steps > 0 && lowest > 0 && self.is_free(lowest - 1) {
+            lowest -= 1;
+            steps -= 1;
+        }
+        lowest
+    }
+
+    /// The free cluster where a run of at most so many begins.
+    fn first_free(&self, most: u32) -> u32
+        requires some { 0 < free_in self.now }
+        requires wanted { 0 < most }
+        ensures { IsIn self.now result State.Free }
+    {
+        if self.is_free(self.next) {
+            return self.next;
+        }
+        let last = self.places.cluster_at(self.free - 1);
+        self.lowest_beside(last, most - 1)
+    }
+
+    /// Free clusters beside one another, at most so many. They stay free. The search goes on behind the cluster that
+    /// was used last, so that runs ascend while nothing lies in their way.
+    pub fn free_run(&self, most: u32) -> Run
+        requires some { 0 < free_in self.now }
+        requires wanted { 0 < most }
+        ensures some { 0 < result.count }
+        ensures most { result.count ≤ most }
+        ensures free { (k : ℕ) → k < result.count → IsIn self.now (result.first + k) State.Free }
+    {
+        let first = self.first_free(most);
+        let mut count = 1;
+        while count < most && self.is_free_behind(first, count) {
+            count += 1;
+        }
+        Run { first, count }
+    }
+
     /// Some free cluster, which is used from now on, or none where no cluster is free.
     pub fn take(&mut self) -> Option<u32>
         ensures some { IfSome result (λ c. IsIn self.old c State.Free × (self.new ≡ slice_set self.old c State.Used)) }
@@ -78,7 +146,7 @@ impl Space {
         if self.free == 0 {
             return None;
         }
-        let cluster = self.places.cluster_at(self.free - 1);
+        let cluster = self.free_run(1).first;
         self.mark_used(cluster);
         Some(cluster)
     }
@@ -110,6 +178,7 @@ impl Space {
     {
         self.places.move_to(cluster, self.free + self.deferred - 1);
         self.deferred -= 1;
+        self.next = cluster.saturating_add(1);
     }
 
     /// Makes a used cluster deferred.

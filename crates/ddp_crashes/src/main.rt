@@ -3,27 +3,16 @@
 //! Each file has one line of output, with how many rows it has; a row that differs has one before it.
 #![tactic(auto)]
 
-use ddp_running::{fresh, rows_of, survives};
-use row_files::Tally;
-use std::alloc::Global;
+use ddp_running::run_table;
+use row_files::RowFault;
 use std::{env, fs};
 
-/// What is told of a table.
-fn told(alloc: Global, path: &str, file: &[u8]) -> anyhow::Result<String> {
-    let image = fresh(alloc)?;
-    let mut tally = Tally::new(alloc);
-    for row in &rows_of(alloc, file)? {
-        tally.count(row.line, survives(alloc, row, &image)?)?;
-    }
-    Ok(tally.told(path)?)
-}
-
-fn main(rt: HostRuntime) -> anyhow::Result<()> {
+fn main(rt: HostRuntime) -> Result<(), RowFault> {
     let mut paths = env::args(&rt)?;
     let _program = paths.next();
     for path in paths {
         let file = fs::read(&rt, &path)?;
-        let told = told(rt.alloc(), path.as_str(), &file)?;
+        let told = run_table(rt.alloc(), &path, &file)?;
         print!(rt; "{told}")?;
     }
     Ok(())

@@ -1,6 +1,6 @@
 // Lines that stand for many.
 use row_files::{Line, number, push_bytes, split_word};
-use std::alloc::Global;
+use std::alloc::{AllocError, Global};
 
 /// Lines that are repeated, with a number that goes over 0, STEP, 2 STEP and so on, each modulo COUNT.
 #[derive(Drop)]
@@ -26,7 +26,7 @@ pub fn block_of<'a>(alloc: Global, text: &[u8]) -> Block<'a> {
 }
 
 /// Adds the digits of what `A B M W` stands for: A times the number and B, modulo M, in at least W digits.
-fn push_form(alloc: Global, to: &mut Vec<u8>, form: &[u8], number: u64) -> anyhow::Result<()> {
+fn push_form(alloc: Global, to: &mut Vec<u8>, form: &[u8], number: u64) -> Result<(), AllocError> {
     let (factor, rest) = split_word(form);
     let (more, rest) = split_word(rest);
     let (modulus, width) = split_word(rest);
@@ -41,8 +41,7 @@ fn push_form(alloc: Global, to: &mut Vec<u8>, form: &[u8], number: u64) -> anyho
     for _ in digits.len() as u64..number_or(width, 0) {
         to.push(b'0')?;
     }
-    to.extend_from_slice(digits.as_bytes())?;
-    Ok(())
+    to.extend_from_slice(digits.as_bytes())
 }
 
 /// What stands before a byte and what stands behind it.
@@ -52,7 +51,7 @@ fn split_at_byte(text: &[u8], byte: u8) -> Option<(&[u8], &[u8])> {
 }
 
 /// A text whose forms in braces stand for their digits.
-pub fn filled(alloc: Global, text: &[u8], number: u64) -> anyhow::Result<Vec<u8>> {
+pub fn filled(alloc: Global, text: &[u8], number: u64) -> Result<Vec<u8>, AllocError> {
     let mut filled = Vec::new(alloc);
     let mut rest = text;
     for _ in 0..text.len() {
@@ -71,7 +70,7 @@ pub fn filled(alloc: Global, text: &[u8], number: u64) -> anyhow::Result<Vec<u8>
 }
 
 /// Adds what `COUNT TEXT` stands for: the text's bytes, so many times.
-pub fn push_many(alloc: Global, to: &mut Vec<u8>, text: &[u8]) -> anyhow::Result<()> {
+pub fn push_many(alloc: Global, to: &mut Vec<u8>, text: &[u8]) -> Result<(), AllocError> {
     let (count, spelt) = split_word(text);
     let mut piece = Vec::new(alloc);
     let _rest = push_bytes(&mut piece, spelt)?;

@@ -1,11 +1,12 @@
 // A run is stopped at each call of its disk, and each image that is left is mounted.
 use crate::items::items_of;
 use crate::plain::Plain;
-use crate::rows::{Row, Run};
+use crate::rows::Run;
 use crate::running::{Ran, Way, disk_of, make_run};
 use crate::told::is_as_told;
 use ddpsh::Outcome;
-use std::alloc::Global;
+use row_files::{RowFault, or_memory};
+use std::alloc::{AllocError, Global};
 use vdisk::MemoryDisk;
 
 /// The picks of what a crash leaves.
@@ -18,7 +19,7 @@ const MOST_STOPS: u64 = 400;
 const WHOLE: Way = Way::Portions(u64::MAX);
 
 /// What a reading tells after each front of a script's calls, the empty one first.
-fn fronts_of(alloc: Global, script: &[u8], reading: &[u8]) -> anyhow::Result<Vec<Vec<u8>>> {
+fn fronts_of(alloc: Global, script: &[u8], reading: &[u8]) -> Result<Vec<Vec<u8>>, RowFault> {
     let (calls, reading) = (items_of(alloc, script)?, items_of(alloc, reading)?);
     let mut plain = Plain::new(alloc);
     let mut fronts = Vec::new(alloc);
@@ -54,8 +55,8 @@ fn is_a_front(fronts: &[Vec<u8>], least: u64, most: u64, printed: &[u8]) -> bool
 }
 
 /// A run over an image that a crash left.
-fn read_back(alloc: Global, reading: &Run, left: &MemoryDisk, pick: u64) -> anyhow::Result<Ran> {
-    let mut disk = MemoryDisk::with_image(alloc, left.crash(pick)?);
+fn read_back(alloc: Global, reading: &Run, left: &MemoryDisk, pick: u64) -> Result<Ran, RowFault> {
+    let mut disk = MemoryDisk::with_image(alloc, or_memory(left.crash(pick))?);
     make_run(alloc, reading, WHOLE, &mut disk)
 }
 
@@ -66,7 +67,7 @@ fn leaves_a_front(
     fronts: &[Vec<u8>],
     left: &MemoryDisk,
     outcome: &Outcome,
-) -> anyhow::Result<bool> {
+) -> Result<bool, RowFault> {
     let (least, most) = (acknowledged(outcome), outcome.lines.saturating_add(1));
     for pick in 0..PICKS {
         let read = read_back(alloc, reading, left, pick)?;
@@ -85,7 +86,7 @@ fn leaves_what_was(
     fronts: &[Vec<u8>],
     left: &MemoryDisk,
     is_made: bool,
-) -> anyhow::Result<bool> {
+) -> Result<bool, RowFault> {
     for pick in 0..PICKS {
         let read = read_back(alloc, reading, left, pick)?;
         let is_refused = is_made && read.outcome.status == 5;
@@ -97,14 +98,19 @@ fn leaves_what_was(
 }
 
 /// The run that reads back.
-fn reading_of(alloc: Global, run: &Run) -> anyhow::Result<Run> {
+fn reading_of(alloc: Global, run: &Run) -> Result<Run, AllocError> {
     let mut reading = Run::new(alloc);
     reading.script.extend_from_slice(&run.reading)?;
     Ok(reading)
 }
 
 /// A run whose disk fails from a call on, and that disk.
-fn stopped(alloc: Global, run: &Run, image: &[u8], stop: u64) -> anyhow::Result<(Ran, MemoryDisk)> {
+fn stopped(
+    alloc: Global,
+    run: &Run,
+    image: &[u8],
+    stop: u64,
+) -> Result<(Ran, MemoryDisk), RowFault> {
     let mut disk = disk_of(alloc, image)?;
     disk.fail_from(stop);
     let ran = make_run(alloc, run, WHOLE, &mut disk)?;
@@ -112,18 +118,15 @@ fn stopped(alloc: Global, run: &Run, image: &[u8], stop: u64) -> anyhow::Result<
 }
 
 /// Is the run that no stop reaches as it is told, with all its calls acknowledged?
-fn is_whole(alloc: Global, run: &Run, fronts: &[Vec<u8>], ran: &Ran) -> anyhow::Result<bool> {
+fn is_whole(alloc: Global, run: &Run, fronts: &[Vec<u8>], ran: &Ran) -> Result<bool, RowFault> {
     let calls = fronts.len().saturating_sub(1) as u64;
     let is_told = is_as_told(run, &mut Plain::new(alloc), ran)?;
     Ok(is_told && acknowledged(&ran.outcome) == calls)
 }
 
-/// Is the row's run as it is told, and does it survive a stop at each call of its disk? Each image that a crash then
+/// Is a run as it is told, and does it survive a stop at each call of its disk? Each image that a crash then
 /// leaves holds a front of the calls that has all the acknowledged ones.
-pub fn survives(alloc: Global, row: &Row, image: &[u8]) -> anyhow::Result<bool> {
-    let Some(run) = row.runs.first() else {
-        return Ok(false);
-    };
+pub fn survives(alloc: Global, run: &Run, image: &[u8]) -> Result<bool, RowFault> {
     let fronts = fronts_of(alloc, &run.script, &run.reading)?;
     let reading = reading_of(alloc, run)?;
     let image = if run.is_blank() {

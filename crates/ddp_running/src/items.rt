@@ -1,7 +1,8 @@
 // What the lines of a script ask.
 use cmdlet_line::{Line, LineFault, parse};
-use plain_volume::{Bytes, Call, Name};
-use std::alloc::Global;
+use plain_volume::{Bytes, Call, Memory, Name};
+use row_files::{RowFault, or_memory};
+use std::alloc::{AllocError, Global};
 
 /// What a line asks of a plain volume.
 #[derive(Drop)]
@@ -27,17 +28,17 @@ fn without_return(line: &[u8]) -> &[u8] {
     }
 }
 
-fn name_of(alloc: Global, name: &[u8]) -> anyhow::Result<Name> {
-    Ok(Name::of(alloc, name)?)
+fn name_of(alloc: Global, name: &[u8]) -> Result<Name, Memory> {
+    Name::of(alloc, name)
 }
 
-fn write_of(alloc: Global, name: &[u8], at: u64, bytes: &[u8]) -> anyhow::Result<Item> {
+fn write_of(alloc: Global, name: &[u8], at: u64, bytes: &[u8]) -> Result<Item, Memory> {
     let call = Call::Write(name_of(alloc, name)?, at, Bytes::of(alloc, bytes)?);
     Ok(Item::Call(call))
 }
 
 /// The call that reads or changes no more than a file's bytes, or its length.
-fn call_on_bytes(alloc: Global, line: Line<'_>) -> anyhow::Result<Option<Call>> {
+fn call_on_bytes(alloc: Global, line: Line<'_>) -> Result<Option<Call>, Memory> {
     Ok(Some(match line {
         Line::Read(name, at, count) => Call::Read(name_of(alloc, name)?, at, count),
         Line::Length(name, length) => Call::SetLength(name_of(alloc, name)?, length),
@@ -47,7 +48,7 @@ fn call_on_bytes(alloc: Global, line: Line<'_>) -> anyhow::Result<Option<Call>> 
     }))
 }
 
-fn call_of(alloc: Global, line: Line<'_>) -> anyhow::Result<Option<Call>> {
+fn call_of(alloc: Global, line: Line<'_>) -> Result<Option<Call>, Memory> {
     Ok(Some(match line {
         Line::Create(name) => Call::Create(name_of(alloc, name)?),
         Line::Rename(from, to) => Call::Rename(name_of(alloc, from)?, name_of(alloc, to)?),
@@ -57,14 +58,14 @@ fn call_of(alloc: Global, line: Line<'_>) -> anyhow::Result<Option<Call>> {
     }))
 }
 
-fn fill_of(alloc: Global, name: &[u8], at: u64, count: u64, byte: u64) -> anyhow::Result<Item> {
+fn fill_of(alloc: Global, name: &[u8], at: u64, count: u64, byte: u64) -> Result<Item, Memory> {
     let byte = u8::try_from(byte).unwrap_or(0);
     let bytes = vec![in alloc; byte; count as usize]?;
     write_of(alloc, name, at, &bytes)
 }
 
 /// What a line without a payload asks; None of one that asks nothing.
-fn item_of(alloc: Global, line: Line<'_>) -> anyhow::Result<Option<Item>> {
+fn item_of(alloc: Global, line: Line<'_>) -> Result<Option<Item>, Memory> {
     Ok(match line {
         Line::Fill(name, at, count, byte) => Some(fill_of(alloc, name, at, count, byte)?),
         Line::List => Some(Item::List),
@@ -75,19 +76,20 @@ fn item_of(alloc: Global, line: Line<'_>) -> anyhow::Result<Option<Item>> {
     })
 }
 
-fn refused(alloc: Global, text: &str) -> anyhow::Result<Item> {
+fn refused(alloc: Global, what: &[u8], name: &[u8]) -> Result<Item, AllocError> {
     let mut told = Vec::new(alloc);
     told.extend_from_slice(b"refused ")?;
-    told.extend_from_slice(text.as_bytes())?;
+    told.extend_from_slice(what)?;
+    told.extend_from_slice(name)?;
     told.push(b'\n')?;
     Ok(Item::Refused(told))
 }
 
 /// What a refused line is told, as far as drawn scripts have such lines.
-fn refusal_of(alloc: Global, fault: LineFault<'_>) -> anyhow::Result<Item> {
+fn refusal_of(alloc: Global, fault: LineFault<'_>) -> Result<Item, RowFault> {
     match fault {
-        LineFault::BadValue(name) => refused(alloc, &format!(in alloc; "BadValue {name}")?),
-        _ => Err(anyhow::anyhow!("a line is refused otherwise than a drawn one")),
+        LineFault::BadValue(name) => Ok(refused(alloc, b"BadValue ", name.as_bytes())?),
+        _ => Err(RowFault::NoQuestion),
     }
 }
 
@@ -98,29 +100,29 @@ fn written<'a>(
     at: u64,
     count: u64,
     behind: &'a [u8],
-) -> anyhow::Result<(Item, &'a [u8])> {
+) -> Result<(Item, &'a [u8]), Memory> {
     let Some((bytes, rest)) = behind.split_at_checked(count as usize) else {
-        return Ok((refused(alloc, "Cut")?, b""));
+        return Ok((refused(alloc, b"Cut", b"")?, b""));
     };
     match rest {
         [] => Ok((write_of(alloc, name, at, bytes)?, rest)),
         [b'\n', rest @ ..] => Ok((write_of(alloc, name, at, bytes)?, rest)),
-        _ => Ok((refused(alloc, "PayloadEnd")?, first_line(rest).1)),
+        _ => Ok((refused(alloc, b"PayloadEnd", b"")?, first_line(rest).1)),
     }
 }
 
 /// What the lines of a script ask, one after another.
-pub fn items_of(alloc: Global, script: &[u8]) -> anyhow::Result<Vec<Item>> {
+pub fn items_of(alloc: Global, script: &[u8]) -> Result<Vec<Item>, RowFault> {
     let mut items = Vec::new(alloc);
     let mut rest = script;
     for _ in 0..script.len() {
         let (line, behind) = first_line(rest);
         let (item, behind) = match parse(line, *b"D:") {
             Ok(Line::Write(name, at, count)) => {
-                let (item, behind) = written(alloc, name, at, count, behind)?;
+                let (item, behind) = or_memory(written(alloc, name, at, count, behind))?;
                 (Some(item), behind)
             }
-            Ok(line) => (item_of(alloc, line)?, behind),
+            Ok(line) => (or_memory(item_of(alloc, line))?, behind),
             Err(fault) => (Some(refusal_of(alloc, fault)?), behind),
         };
         if let Some(item) = item {

@@ -2,6 +2,7 @@
 use crate::items::{Item, items_of};
 use crate::replies::{print_ok, print_reply};
 use plain_volume::{Call, Name, Reference, Reply};
+use row_files::{Answers, RowFault, or_memory};
 use std::alloc::Global;
 
 /// More files than a list may have.
@@ -13,7 +14,7 @@ pub struct Plain {
     alloc: Global,
     volume: Reference,
     /// The answers to the last script.
-    pub output: Vec<u8>,
+    pub output: Answers,
     /// How many there are.
     pub lines: u64,
     /// 1 where one of them is a refusal, else 0.
@@ -25,70 +26,69 @@ impl Plain {
         Plain {
             alloc,
             volume: Reference::new(alloc),
-            output: Vec::new(alloc),
+            output: Answers::new(alloc),
             lines: 0,
             status: 0,
         }
     }
 
     /// The volume's reply. It says nothing more, so that no caller reads the contract of a step.
-    fn reply(&mut self, call: &Call) -> anyhow::Result<Reply> {
-        Ok(self.volume.apply(call)?)
+    fn reply(&mut self, call: &Call) -> Result<Reply, RowFault> {
+        or_memory(self.volume.apply(call))
     }
 
-    fn answer_call(&mut self, call: &Call) -> anyhow::Result<()> {
+    fn answer_call(&mut self, call: &Call) -> Result<(), RowFault> {
         let reply = self.reply(call)?;
         if let Reply::Refused(_) = &reply {
             self.status = 1;
         }
-        print_reply(self.alloc, &mut self.output, &reply)
+        Ok(print_reply(&mut self.output, &reply)?)
     }
 
-    fn next_name(&mut self, after: Option<Name>) -> anyhow::Result<Option<Name>> {
+    fn next_name(&mut self, after: Option<Name>) -> Result<Option<Name>, RowFault> {
         match self.reply(&Call::Next(after))? {
             Reply::Name(name) => Ok(name),
-            _ => Err(anyhow::anyhow!("a name is wanted")),
+            _ => Err(RowFault::NoQuestion),
         }
     }
 
-    fn length_of(&mut self, name: &Name) -> anyhow::Result<u64> {
-        match self.reply(&Call::Stat(name.copy(self.alloc)?))? {
+    fn length_of(&mut self, name: &Name) -> Result<u64, RowFault> {
+        match self.reply(&Call::Stat(or_memory(name.copy(self.alloc))?))? {
             Reply::Length(length) => Ok(length),
-            _ => Err(anyhow::anyhow!("a length is wanted")),
+            _ => Err(RowFault::NoQuestion),
         }
     }
 
     /// Prints each file, and answers how many there are.
-    fn print_files(&mut self, listed: &mut Vec<u8>) -> anyhow::Result<u64> {
+    fn print_files(&mut self, listed: &mut Answers) -> Result<u64, RowFault> {
         let mut last = None;
         for count in 0..MOST_FILES {
             let Some(name) = self.next_name(last)? else {
                 return Ok(count);
             };
-            let length = self.length_of(&name)?;
-            listed.extend_from_slice(format!(in self.alloc; "{length} ")?.as_bytes())?;
-            listed.extend_from_slice(name.as_bytes())?;
-            listed.push(b'\n')?;
+            listed.part_number(self.length_of(&name)?)?;
+            listed.part(b" ")?;
+            listed.bytes(name.as_bytes())?;
             last = Some(name);
         }
-        Err(anyhow::anyhow!("there are too many files"))
+        Err(RowFault::NoQuestion)
     }
 
-    fn answer_list(&mut self) -> anyhow::Result<()> {
-        let mut listed = Vec::new(self.alloc);
+    fn answer_list(&mut self) -> Result<(), RowFault> {
+        let mut listed = Answers::new(self.alloc);
         let count = self.print_files(&mut listed)?;
-        print_ok(self.alloc, &mut self.output, count)?;
-        Ok(self.output.extend_from_slice(&listed)?)
+        print_ok(&mut self.output, count)?;
+        Ok(self.output.part(listed.text())?)
     }
 
-    fn answer(&mut self, item: &Item) -> anyhow::Result<()> {
+    fn answer(&mut self, item: &Item) -> Result<(), RowFault> {
         self.lines = self.lines.saturating_add(1);
         match item {
             Item::Call(call) => self.answer_call(call),
             Item::List => self.answer_list(),
             Item::Refused(told) => {
                 self.status = 1;
-                Ok(self.output.extend_from_slice(told)?)
+                Ok(self.output.part(told)?)
             }
         }
     }
@@ -100,12 +100,12 @@ impl Plain {
     }
 
     /// Answers one item, with nothing told before.
-    pub fn step(&mut self, item: &Item) -> anyhow::Result<()> {
+    pub fn step(&mut self, item: &Item) -> Result<(), RowFault> {
         self.begin();
         self.answer(item)
     }
 
-    fn answer_all(&mut self, items: &[Item]) -> anyhow::Result<()> {
+    fn answer_all(&mut self, items: &[Item]) -> Result<(), RowFault> {
         self.begin();
         for item in items {
             self.answer(item)?;
@@ -114,13 +114,13 @@ impl Plain {
     }
 
     /// What these lines are told.
-    pub fn told(&mut self, items: &[Item]) -> anyhow::Result<Vec<u8>> {
+    pub fn told(&mut self, items: &[Item]) -> Result<Vec<u8>, RowFault> {
         self.answer_all(items)?;
-        Ok(self.output.as_slice().to_vec(self.alloc)?)
+        Ok(self.output.text().to_vec(self.alloc)?)
     }
 
     /// Serves a script, whose answers then stand in `output`.
-    pub fn serve(&mut self, script: &[u8]) -> anyhow::Result<()> {
+    pub fn serve(&mut self, script: &[u8]) -> Result<(), RowFault> {
         let items = items_of(self.alloc, script)?;
         self.answer_all(&items)
     }

@@ -1,44 +1,46 @@
 // What a script prints by the replies of a plain volume.
 use plain_volume::{Fault, Reply};
-use std::alloc::Global;
+use row_files::Answers;
+use std::alloc::AllocError;
 
-fn refusal(alloc: Global, fault: Fault) -> anyhow::Result<String> {
-    Ok(match fault {
-        Fault::BadName => format!(in alloc; "refused BadName\n")?,
-        Fault::NoFile => format!(in alloc; "refused NoFile\n")?,
-        Fault::Exists => format!(in alloc; "refused Exists\n")?,
-        Fault::OutsideFile(size) => format!(in alloc; "refused OutsideFile {size}\n")?,
-        Fault::TooLarge(limit) => format!(in alloc; "refused TooLarge {limit}\n")?,
-        _ => return Err(anyhow::anyhow!("a plain volume has no such refusal")),
-    })
+type Printed = Result<(), AllocError>;
+
+fn numbered(output: &mut Answers, what: &[u8], number: u64) -> Printed {
+    output.part(what)?;
+    output.number(number)
+}
+
+fn print_refusal(output: &mut Answers, fault: Fault) -> Printed {
+    output.part(b"refused ")?;
+    match fault {
+        Fault::BadName => output.line("BadName"),
+        Fault::NoFile => output.line("NoFile"),
+        Fault::Exists => output.line("Exists"),
+        Fault::OutsideFile(size) => numbered(output, b"OutsideFile ", size),
+        Fault::TooLarge(limit) => numbered(output, b"TooLarge ", limit),
+        _ => output.line("what no plain volume refuses"),
+    }
 }
 
 /// Prints `ok` with one more word.
-pub fn print_ok(alloc: Global, output: &mut Vec<u8>, count: u64) -> anyhow::Result<()> {
-    let line = format!(in alloc; "ok {count}\n")?;
-    Ok(output.extend_from_slice(line.as_bytes())?)
-}
-
-fn print_bytes(alloc: Global, output: &mut Vec<u8>, bytes: &[u8]) -> anyhow::Result<()> {
-    print_ok(alloc, output, bytes.len() as u64)?;
-    output.extend_from_slice(bytes)?;
-    Ok(output.push(b'\n')?)
-}
-
-fn print_digest(alloc: Global, output: &mut Vec<u8>, digest: &[u8]) -> anyhow::Result<()> {
-    let digits = hex::encode(alloc, digest)?;
-    let line = format!(in alloc; "ok {digits}\n")?;
-    Ok(output.extend_from_slice(line.as_bytes())?)
+pub fn print_ok(output: &mut Answers, count: u64) -> Printed {
+    numbered(output, b"ok ", count)
 }
 
 /// Prints the answer to a call.
-pub fn print_reply(alloc: Global, output: &mut Vec<u8>, reply: &Reply) -> anyhow::Result<()> {
+pub fn print_reply(output: &mut Answers, reply: &Reply) -> Printed {
     match reply {
-        Reply::Done => Ok(output.extend_from_slice(b"ok\n")?),
-        Reply::Length(length) => print_ok(alloc, output, *length),
-        Reply::Bytes(bytes) => print_bytes(alloc, output, bytes.as_bytes()),
-        Reply::Digest(digest) => print_digest(alloc, output, digest.as_slice()),
-        Reply::Refused(fault) => Ok(output.extend_from_slice(refusal(alloc, *fault)?.as_bytes())?),
-        Reply::Name(_) => Err(anyhow::anyhow!("no line prints a name alone")),
+        Reply::Done => output.line("ok"),
+        Reply::Length(length) => print_ok(output, *length),
+        Reply::Bytes(bytes) => {
+            print_ok(output, bytes.as_bytes().len() as u64)?;
+            output.bytes(bytes.as_bytes())
+        }
+        Reply::Digest(digest) => {
+            output.part(b"ok ")?;
+            output.digits(digest)
+        }
+        Reply::Refused(fault) => print_refusal(output, *fault),
+        Reply::Name(_) => output.line("a name alone, which no line prints"),
     }
 }

@@ -3,9 +3,10 @@ ghost use Rattle.std.specs.Prelude.{◌<◌};
 
 use crate::rows::Run;
 use crate::settings::{Outside, Setting};
-use cmdlet_line::Words;
+use cmdlet_line::{Memory, Words};
 use ddpsh::{Outcome, run};
-use std::alloc::Global;
+use row_files::{RowFault, or_memory};
+use std::alloc::{AllocError, Global};
 use vdisk::{
     Clock, Disk, MemoryClock, MemoryDisk, MemorySink, MemorySource, ReaderSource, Sink, Source,
     WriterSink,
@@ -43,7 +44,7 @@ fn served<S: Source, K: Sink, D: Disk, C: Clock>(
 }
 
 /// The words of a run; those that mount, where it has none of its own.
-fn words_of(alloc: Global, run: &Run) -> anyhow::Result<Words> {
+fn words_of(alloc: Global, run: &Run) -> Result<Words, Memory> {
     let mut words = Words::new(alloc);
     for setting in &run.settings {
         if let Setting::Words(texts) = setting {
@@ -55,7 +56,7 @@ fn words_of(alloc: Global, run: &Run) -> anyhow::Result<Words> {
     Ok(words)
 }
 
-fn push_words(words: &mut Words, texts: &[String]) -> anyhow::Result<()> {
+fn push_words(words: &mut Words, texts: &[String]) -> Result<(), Memory> {
     for text in texts {
         words.push(text.as_str())?;
     }
@@ -71,7 +72,7 @@ fn clock_of(run: &Run) -> MemoryClock {
     clock
 }
 
-fn source_of(alloc: Global, run: &Run, most: usize) -> anyhow::Result<MemorySource>
+fn source_of(alloc: Global, run: &Run, most: usize) -> Result<MemorySource, AllocError>
     requires { 0 < most }
 {
     let mut source = MemorySource::in_portions(run.script.as_slice().to_vec(alloc)?, most);
@@ -98,10 +99,10 @@ fn ran_by_portions(
     run: &Run,
     most: usize,
     disk: &mut MemoryDisk,
-) -> anyhow::Result<Ran>
+) -> Result<Ran, RowFault>
     requires { 0 < most }
 {
-    let words = words_of(alloc, run)?;
+    let words = or_memory(words_of(alloc, run))?;
     let mut source = source_of(alloc, run, most)?;
     let mut sink = sink_of(alloc, run, most);
     let mut clock = clock_of(run);
@@ -116,8 +117,8 @@ fn ran_into<K: Sink>(
     run: &Run,
     sink: &mut K,
     disk: &mut MemoryDisk,
-) -> anyhow::Result<Outcome> {
-    let words = words_of(alloc, run)?;
+) -> Result<Outcome, RowFault> {
+    let words = or_memory(words_of(alloc, run))?;
     let mut clock = clock_of(run);
     let reader = if run
         .settings
@@ -141,7 +142,7 @@ fn room_of(run: &Run) -> Option<u64> {
     None
 }
 
-fn ran_by_std(alloc: Global, run: &Run, disk: &mut MemoryDisk) -> anyhow::Result<Ran> {
+fn ran_by_std(alloc: Global, run: &Run, disk: &mut MemoryDisk) -> Result<Ran, RowFault> {
     if let Some(room) = room_of(run) {
         let mut printed = vec![in alloc; 0u8; room as usize]?;
         let outcome = ran_into(
@@ -158,20 +159,31 @@ fn ran_by_std(alloc: Global, run: &Run, disk: &mut MemoryDisk) -> anyhow::Result
 }
 
 /// Makes a run over a disk.
-pub fn make_run(alloc: Global, run: &Run, way: Way, disk: &mut MemoryDisk) -> anyhow::Result<Ran> {
+pub fn make_run(
+    alloc: Global,
+    run: &Run,
+    way: Way,
+    disk: &mut MemoryDisk,
+) -> Result<Ran, RowFault> {
     match way {
         Way::Portions(most) => ran_by_portions(alloc, run, (most as usize).max(1), disk),
         Way::Std => ran_by_std(alloc, run, disk),
     }
 }
 
-/// An image of a fresh volume of 4,096 clusters.
-pub fn fresh(alloc: Global) -> anyhow::Result<Vec<u8>> {
+/// The words that make a volume of 4,096 clusters.
+fn format_words(alloc: Global) -> Result<Words, Memory> {
     let mut words = Words::new(alloc);
     for word in ["img", "--format", "4096"] {
         words.push(word)?;
     }
-    let mut disk = MemoryDisk::new(alloc, 0)?;
+    Ok(words)
+}
+
+/// An image of a fresh volume of 4,096 clusters.
+pub fn fresh(alloc: Global) -> Result<Vec<u8>, RowFault> {
+    let words = or_memory(format_words(alloc))?;
+    let mut disk = or_memory(MemoryDisk::new(alloc, 0))?;
     let mut source = MemorySource::new(Vec::new(alloc));
     let mut sink = MemorySink::new(alloc);
     let mut clock = MemoryClock::new(SECOND);
@@ -180,6 +192,6 @@ pub fn fresh(alloc: Global) -> anyhow::Result<Vec<u8>> {
 }
 
 /// A disk with this image.
-pub fn disk_of(alloc: Global, image: &[u8]) -> anyhow::Result<MemoryDisk> {
+pub fn disk_of(alloc: Global, image: &[u8]) -> Result<MemoryDisk, AllocError> {
     Ok(MemoryDisk::with_image(alloc, image.to_vec(alloc)?))
 }

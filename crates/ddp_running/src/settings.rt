@@ -1,5 +1,5 @@
 // What a run finds outside.
-use row_files::{number, push_bytes, push_hex, split_word};
+use row_files::{Asked, RowFault, push_bytes};
 use std::alloc::Global;
 
 /// A part of the outside that may fail.
@@ -42,34 +42,19 @@ pub enum Setting {
     Opened(u64),
 }
 
-/// A number that a setting has.
-fn number_of(text: &[u8]) -> anyhow::Result<u64> {
-    match number(text) {
-        Some(number) => Ok(number),
-        None => Err(anyhow::anyhow!("a number of a setting is none")),
-    }
-}
-
-fn byte_of(text: &[u8]) -> anyhow::Result<u8> {
-    match u8::try_from(number_of(text)?) {
-        Ok(byte) => Ok(byte),
-        Err(_) => Err(anyhow::anyhow!("a byte of a setting is none")),
-    }
-}
-
 /// A word; two quotes spell the empty one.
-fn word_of(alloc: Global, text: &[u8]) -> anyhow::Result<String> {
+fn word_of(alloc: Global, text: &[u8]) -> Result<String, RowFault> {
     let mut bytes = Vec::new(alloc);
     if text != b"\"\"".as_slice() {
         let _rest = push_bytes(&mut bytes, text)?;
     }
     match String::from_utf8(bytes) {
         Ok(word) => Ok(word),
-        Err(_) => Err(anyhow::anyhow!("a word of a setting is no text")),
+        Err(_) => Err(RowFault::NoQuestion),
     }
 }
 
-fn words_of(alloc: Global, text: &[u8]) -> anyhow::Result<Setting> {
+fn words_of(alloc: Global, text: &[u8]) -> Result<Setting, RowFault> {
     let mut words = Vec::new(alloc);
     if text.is_empty() {
         return Ok(Setting::Words(words));
@@ -80,89 +65,40 @@ fn words_of(alloc: Global, text: &[u8]) -> anyhow::Result<Setting> {
     Ok(Setting::Words(words))
 }
 
-fn outside_of(text: &[u8]) -> anyhow::Result<Outside> {
-    Ok(if text == b"disk".as_slice() {
-        Outside::Disk
-    } else if text == b"source".as_slice() {
-        Outside::Source
-    } else if text == b"sink".as_slice() {
-        Outside::Sink
-    } else if text == b"clock".as_slice() {
-        Outside::Clock
-    } else {
-        return Err(anyhow::anyhow!("no part of the outside has this name"));
-    })
-}
-
-/// The bytes that a word has in hexadecimal digits.
-fn digits_of(alloc: Global, text: &[u8]) -> anyhow::Result<Vec<u8>> {
-    let mut bytes = Vec::new(alloc);
-    if push_hex(&mut bytes, text)? {
-        Ok(bytes)
-    } else {
-        Err(anyhow::anyhow!("bytes of a setting are not in hexadecimal digits"))
+fn outside_of(text: &[u8]) -> Result<Outside, RowFault> {
+    match text {
+        b"disk" => Ok(Outside::Disk),
+        b"source" => Ok(Outside::Source),
+        b"sink" => Ok(Outside::Sink),
+        b"clock" => Ok(Outside::Clock),
+        _ => Err(RowFault::NoQuestion),
     }
 }
 
-fn record_of(alloc: Global, text: &[u8]) -> anyhow::Result<Setting> {
-    let (key, value) = split_word(text);
-    Ok(Setting::Record(digits_of(alloc, key)?, digits_of(alloc, value)?))
-}
-
-fn dropped_of(alloc: Global, text: &[u8]) -> anyhow::Result<Setting> {
-    let (from, to) = split_word(text);
-    Ok(Setting::Dropped(digits_of(alloc, from)?, digits_of(alloc, to)?))
-}
-
-fn holds_of(alloc: Global, text: &[u8]) -> anyhow::Result<Setting> {
-    let (at, bytes) = split_word(text);
-    Ok(Setting::Holds(number_of(at)?, digits_of(alloc, bytes)?))
-}
-
-fn fill_of(text: &[u8]) -> anyhow::Result<Setting> {
-    let (at, rest) = split_word(text);
-    let (count, byte) = split_word(rest);
-    Ok(Setting::Fill(number_of(at)?, number_of(count)?, byte_of(byte)?))
-}
-
-/// A setting of one number or of two.
-fn numbered(name: &[u8], text: &[u8]) -> anyhow::Result<Setting> {
-    let (first, second) = split_word(text);
-    Ok(if name == b"short".as_slice() {
-        Setting::Short(number_of(first)?)
-    } else if name == b"flip".as_slice() {
-        Setting::Flip(number_of(first)?, byte_of(second)?)
-    } else if name == b"portion".as_slice() {
-        Setting::Portion(number_of(first)?)
-    } else if name == b"room".as_slice() {
-        Setting::Room(number_of(first)?)
-    } else if name == b"opened".as_slice() {
-        Setting::Opened(number_of(first)?)
-    } else if name == b"fail".as_slice() {
-        Setting::Fail(outside_of(first)?, number_of(second)?)
-    } else {
-        return Err(anyhow::anyhow!("no setting has this name"));
+/// A setting that has bytes.
+fn spelt(alloc: Global, name: &[u8], mut asked: Asked<'_>) -> Result<Setting, RowFault> {
+    Ok(match name {
+        b"words" => words_of(alloc, asked.rest())?,
+        b"record" => Setting::Record(asked.bytes(alloc)?, asked.bytes(alloc)?),
+        b"drop" => Setting::Dropped(asked.bytes(alloc)?, asked.bytes(alloc)?),
+        b"holds" => Setting::Holds(asked.number()?, asked.bytes(alloc)?),
+        _ => return Err(RowFault::NoQuestion),
     })
 }
 
 /// The setting that a line's text spells.
-pub fn setting_of(alloc: Global, text: &[u8]) -> anyhow::Result<Setting> {
-    let (name, rest) = split_word(text);
-    if name == b"words".as_slice() {
-        words_of(alloc, rest)
-    } else if name == b"blank".as_slice() {
-        Ok(Setting::Blank)
-    } else if name == b"no-source".as_slice() {
-        Ok(Setting::NoSource)
-    } else if name == b"record".as_slice() {
-        record_of(alloc, rest)
-    } else if name == b"drop".as_slice() {
-        dropped_of(alloc, rest)
-    } else if name == b"holds".as_slice() {
-        holds_of(alloc, rest)
-    } else if name == b"fill".as_slice() {
-        fill_of(rest)
-    } else {
-        numbered(name, rest)
-    }
+pub fn setting_of(alloc: Global, text: &[u8]) -> Result<Setting, RowFault> {
+    let mut asked = Asked::new(text);
+    Ok(match asked.word() {
+        b"blank" => Setting::Blank,
+        b"no-source" => Setting::NoSource,
+        b"short" => Setting::Short(asked.number()?),
+        b"flip" => Setting::Flip(asked.number()?, asked.byte()?),
+        b"fill" => Setting::Fill(asked.number()?, asked.number()?, asked.byte()?),
+        b"portion" => Setting::Portion(asked.number()?),
+        b"room" => Setting::Room(asked.number()?),
+        b"opened" => Setting::Opened(asked.number()?),
+        b"fail" => Setting::Fail(outside_of(asked.word())?, asked.number()?),
+        name => spelt(alloc, name, asked)?,
+    })
 }

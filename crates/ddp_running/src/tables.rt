@@ -3,34 +3,32 @@ use crate::blocks::{Block, block_of, filled, push_many};
 use crate::drawn_lines::push_drawn;
 use crate::rows::{Durable, End, Row, Run};
 use crate::settings::setting_of;
-use row_files::{Line, lines, number, push_line, split_word};
+use row_files::{Asked, Line, RowFault, lines, push_line};
 use std::alloc::Global;
 use std::mem;
 
-/// The two numbers of a text.
-fn two_numbers(text: &[u8]) -> anyhow::Result<(u64, u64)> {
-    let (first, second) = split_word(text);
-    match (number(first), number(second)) {
-        (Some(first), Some(second)) => Ok((first, second)),
-        _ => Err(anyhow::anyhow!("two numbers are wanted")),
-    }
-}
-
-fn end_of(text: &[u8]) -> anyhow::Result<End> {
+fn end_of(text: &[u8]) -> Result<End, RowFault> {
     if text == b"plain".as_slice() {
         return Ok(End::Plain);
     }
-    let (status, lines) = two_numbers(text)?;
-    Ok(End::Told(status, lines))
+    let mut asked = Asked::new(text);
+    Ok(End::Told(asked.number()?, asked.number()?))
 }
 
-fn durable_of(text: &[u8]) -> anyhow::Result<Durable> {
-    let (moment, calls) = two_numbers(text)?;
+fn durable_of(mut asked: Asked<'_>) -> Result<Durable, RowFault> {
+    let moment = asked.number()?;
+    let calls = asked.number()?;
     Ok(Durable { moment, calls })
 }
 
+/// Adds lines that are drawn, as `SEED LINES` asks.
+fn push_lines(alloc: Global, to: &mut Vec<u8>, mut asked: Asked<'_>) -> Result<(), RowFault> {
+    let seed = asked.number()?;
+    Ok(push_drawn(alloc, to, seed, asked.number()?)?)
+}
+
 /// Takes a line of a run in.
-fn take_in(alloc: Global, run: &mut Run, mark: u8, text: &[u8]) -> anyhow::Result<()> {
+fn take_in(alloc: Global, run: &mut Run, mark: u8, text: &[u8]) -> Result<(), RowFault> {
     match mark {
         b'>' => push_line(&mut run.script, text)?,
         b'<' => push_line(&mut run.output, text)?,
@@ -38,18 +36,15 @@ fn take_in(alloc: Global, run: &mut Run, mark: u8, text: &[u8]) -> anyhow::Resul
         b'+' => push_many(alloc, &mut run.script, text)?,
         b'-' => push_many(alloc, &mut run.output, text)?,
         b':' => run.settings.push(setting_of(alloc, text)?)?,
-        b'@' => run.acks.push(durable_of(text)?)?,
-        b'%' => {
-            let (seed, count) = two_numbers(text)?;
-            push_drawn(alloc, &mut run.script, seed, count)?;
-        }
-        _ => return Err(anyhow::anyhow!("no line has such a mark")),
+        b'@' => run.acks.push(durable_of(Asked::new(text))?)?,
+        b'%' => push_lines(alloc, &mut run.script, Asked::new(text))?,
+        _ => return Err(RowFault::NoQuestion),
     }
     Ok(())
 }
 
 /// Takes the lines of a block in, as often as it says.
-fn repeat(alloc: Global, run: &mut Run, block: &Block<'_>) -> anyhow::Result<()> {
+fn repeat(alloc: Global, run: &mut Run, block: &Block<'_>) -> Result<(), RowFault> {
     for turn in 0..block.count {
         let place = turn.wrapping_mul(block.step).checked_rem(block.count);
         take_block(alloc, run, block, place.unwrap_or(0))?;
@@ -57,7 +52,12 @@ fn repeat(alloc: Global, run: &mut Run, block: &Block<'_>) -> anyhow::Result<()>
     Ok(())
 }
 
-fn take_block(alloc: Global, run: &mut Run, block: &Block<'_>, number: u64) -> anyhow::Result<()> {
+fn take_block(
+    alloc: Global,
+    run: &mut Run,
+    block: &Block<'_>,
+    number: u64,
+) -> Result<(), RowFault> {
     for line in &block.lines {
         take_in(alloc, run, line.mark, &filled(alloc, line.text, number)?)?;
     }
@@ -76,13 +76,13 @@ struct Table<'a> {
 
 impl<'a> Table<'a> {
     /// Ends a run, and hands it out.
-    fn end_run(&mut self, text: &[u8]) -> anyhow::Result<Run> {
+    fn end_run(&mut self, text: &[u8]) -> Result<Run, RowFault> {
         let mut run = mem::replace(&mut self.run, Run::new(self.alloc));
         run.end = end_of(text)?;
         Ok(run)
     }
 
-    fn end_row(&mut self, line: Line<'a>) -> anyhow::Result<()> {
+    fn end_row(&mut self, line: Line<'a>) -> Result<(), RowFault> {
         let run = self.end_run(line.text)?;
         let mut runs = mem::replace(&mut self.runs, Vec::new(self.alloc));
         runs.push(run)?;
@@ -93,7 +93,10 @@ impl<'a> Table<'a> {
         Ok(())
     }
 
-    fn take_in(&mut self, line: Line<'a>) -> anyhow::Result<()> {
+    fn take_in(&mut self, line: Line<'a>) -> Result<(), RowFault> {
+        if line.mark == b'/' {
+            return self.end_block();
+        }
         if let Some(block) = &mut self.block {
             block.lines.push(line)?;
             return Ok(());
@@ -111,7 +114,7 @@ impl<'a> Table<'a> {
         Ok(())
     }
 
-    fn end_block(&mut self) -> anyhow::Result<()> {
+    fn end_block(&mut self) -> Result<(), RowFault> {
         if let Some(block) = self.block.take() {
             repeat(self.alloc, &mut self.run, &block)?;
         }
@@ -120,7 +123,7 @@ impl<'a> Table<'a> {
 }
 
 /// The rows of a file. A line that has no known mark is an error, and so is one that is not spelt as its mark asks.
-pub fn rows_of(alloc: Global, file: &[u8]) -> anyhow::Result<Vec<Row>> {
+pub fn rows_of(alloc: Global, file: &[u8]) -> Result<Vec<Row>, RowFault> {
     let mut table = Table {
         alloc,
         rows: Vec::new(alloc),
@@ -129,10 +132,9 @@ pub fn rows_of(alloc: Global, file: &[u8]) -> anyhow::Result<Vec<Row>> {
         block: None,
     };
     for line in &lines(alloc, file)? {
-        if line.mark == b'/' {
-            table.end_block()?;
-        } else {
-            table.take_in(*line)?;
+        match table.take_in(*line) {
+            Err(RowFault::NoQuestion) => return Err(RowFault::BadLine(line.number)),
+            taken => taken?,
         }
     }
     Ok(table.rows)

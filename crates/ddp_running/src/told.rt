@@ -4,6 +4,7 @@ use crate::rows::{Durable, End, Run};
 use crate::running::Ran;
 use crate::settings::Setting;
 use ddpsh::Outcome;
+use row_files::RowFault;
 
 /// Are these the acknowledgements? Their moments are counted from the volume's opening on.
 fn has_acks(outcome: &Outcome, acks: &[Durable]) -> bool {
@@ -40,7 +41,7 @@ fn is_opened_as_told(run: &Run, outcome: &Outcome) -> bool {
 }
 
 /// Is this what the row tells of its run? The plain volume has served the runs before it.
-pub fn is_as_told(run: &Run, plain: &mut Plain, ran: &Ran) -> anyhow::Result<bool> {
+pub fn is_as_told(run: &Run, plain: &mut Plain, ran: &Ran) -> Result<bool, RowFault> {
     let (status, lines) = (u64::from(ran.outcome.status), ran.outcome.lines);
     let is_printed = match run.end {
         End::Told(wanted, count) => {
@@ -50,7 +51,7 @@ pub fn is_as_told(run: &Run, plain: &mut Plain, ran: &Ran) -> anyhow::Result<boo
             plain.serve(&run.script)?;
             status == plain.status
                 && lines == plain.lines
-                && ran.printed.as_slice() == plain.output.as_slice()
+                && ran.printed.as_slice() == plain.output.text()
         }
     };
     Ok(

@@ -1,4 +1,5 @@
 // Cutting bytes into pieces, by the fast body and by the plain one.
+use crate::faults::BenchFault;
 use crate::random::add_random;
 use crate::report::{nanos_since, rate};
 use regression_chunker::{Cut, next_cut, next_cut_plain};
@@ -56,7 +57,7 @@ struct Cutting {
 pub fn measure(
     rt: &(impl Print + Eprint + Alloc<A = Global> + Clock),
     size: u32,
-) -> anyhow::Result<()> {
+) -> Result<(), BenchFault> {
     let count = size as usize * MEBIBYTE;
     compare(rt, RANDOM, random_bytes(rt.alloc(), count)?)?;
     compare(rt, ZEROS, zero_bytes(rt.alloc(), count)?)?;
@@ -64,7 +65,11 @@ pub fn measure(
 }
 
 /// Cuts the same bytes by both bodies.
-fn compare(rt: &(impl Print + Eprint + Clock), names: Names, bytes: Vec<u8>) -> anyhow::Result<()> {
+fn compare(
+    rt: &(impl Print + Eprint + Clock),
+    names: Names,
+    bytes: Vec<u8>,
+) -> Result<(), BenchFault> {
     let (plain, fast) = cut_in_turn(rt, &bytes)?;
     tell(rt, names, bytes.len(), plain, fast)
 }
@@ -76,7 +81,7 @@ fn tell(
     count: usize,
     plain: Cutting,
     fast: Cutting,
-) -> anyhow::Result<()> {
+) -> Result<(), BenchFault> {
     let (kind, pieces, fast_pieces) = (names.kind, plain.pieces, fast.pieces);
     println!(rt; "cut {kind} bytes {count} plain {pieces} fast {fast_pieces} pieces")?;
     rate(rt, names.plain, count as u64, plain.nanos)?;
@@ -85,7 +90,7 @@ fn tell(
 }
 
 /// Cuts the bytes by the plain body and by the fast one, in turn.
-fn cut_in_turn(rt: &impl Clock, bytes: &[u8]) -> anyhow::Result<(Cutting, Cutting)> {
+fn cut_in_turn(rt: &impl Clock, bytes: &[u8]) -> Result<(Cutting, Cutting), BenchFault> {
     let mut plain = Cutting {
         pieces: 0,
         nanos: u64::MAX,
@@ -106,7 +111,7 @@ fn better(one: Cutting, other: Cutting) -> Cutting {
     }
 }
 
-fn cut_once(rt: &impl Clock, bytes: &[u8], body: Body) -> anyhow::Result<Cutting> {
+fn cut_once(rt: &impl Clock, bytes: &[u8], body: Body) -> Result<Cutting, BenchFault> {
     let start = Instant::now(rt)?;
     let pieces = count_pieces(bytes, body);
     Ok(Cutting {

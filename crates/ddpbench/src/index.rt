@@ -1,6 +1,7 @@
 // Inserting into and finding in the two forms of an index.
 ghost use Rattle.std.specs.Prelude.{◌<◌, ◌^◌, slice_get, vec_len};
 
+use crate::faults::{BenchFault, or_refused};
 use crate::random::mixed;
 use crate::report::{cost, figure};
 use hash_index::{CompactIndex, Digests, Index, OrderedIndex};
@@ -27,7 +28,7 @@ impl Digests for Listed {
 pub fn measure(
     rt: &(impl Print + Eprint + Alloc<A = Global> + Clock),
     count: u32,
-) -> anyhow::Result<()> {
+) -> Result<(), BenchFault> {
     let known = digests_of(rt.alloc(), count)?;
     measure_ordered(rt, &known, count)?;
     measure_compact(rt, &known, count)
@@ -37,14 +38,14 @@ fn measure_ordered(
     rt: &(impl Print + Eprint + Alloc<A = Global> + Clock),
     known: &Listed,
     count: u32,
-) -> anyhow::Result<()> {
+) -> Result<(), BenchFault> {
     let mut index = OrderedIndex::new(rt.alloc());
     time_inserts(rt, &mut index, known, count, "index.ordered.insert")?;
     let found = time_finds(rt, &index, known, count, "index.ordered.find")?;
     tell_ordered(rt, count, found)
 }
 
-fn tell_ordered(rt: &impl Print, count: u32, found: u64) -> anyhow::Result<()> {
+fn tell_ordered(rt: &impl Print, count: u32, found: u64) -> Result<(), BenchFault> {
     println!(rt; "index ordered digests {count} found {found}")?;
     Ok(())
 }
@@ -53,7 +54,7 @@ fn measure_compact(
     rt: &(impl Print + Eprint + Alloc<A = Global> + Clock),
     known: &Listed,
     count: u32,
-) -> anyhow::Result<()> {
+) -> Result<(), BenchFault> {
     let mut index = CompactIndex::new(rt.alloc());
     time_inserts(rt, &mut index, known, count, "index.compact.insert")?;
     let found = time_finds(rt, &index, known, count, "index.compact.find")?;
@@ -66,7 +67,7 @@ fn tell_compact(
     found: u64,
     held: usize,
     slots: usize,
-) -> anyhow::Result<()> {
+) -> Result<(), BenchFault> {
     println!(rt; "index compact digests {count} found {found} held {held} slots {slots}")?;
     let bytes = (slots as u64).saturating_mul(6);
     figure(
@@ -85,9 +86,9 @@ fn time_inserts<I: Index>(
     known: &Listed,
     count: u32,
     name: &str,
-) -> anyhow::Result<()> {
+) -> Result<(), BenchFault> {
     let start = Instant::now(rt)?;
-    insert_all(index, known, count)?;
+    or_refused(insert_all(index, known, count))?;
     cost(rt, name, count, start)?;
     Ok(())
 }

@@ -2,6 +2,7 @@
 ghost use Rattle.std.specs.Prelude.{◌≤◌, ◌<◌, ◌*◌, ◌^◌};
 
 use crate::counted::Counted;
+use crate::faults::{BenchFault, or_refused};
 use crate::files::clear;
 use crate::random::mixed;
 use crate::report::{figure, nanos_since, per_second};
@@ -39,7 +40,7 @@ struct Told {
 pub fn measure(
     rt: &(impl Print + Eprint + Alloc<A = Global> + Clock + Files<File = File>),
     count: u32,
-) -> anyhow::Result<()> {
+) -> Result<(), BenchFault> {
     clear(rt, PATH);
     let told = put_and_open(rt, disk_of(rt, count)?, count)?;
     tell(rt, count, told)?;
@@ -61,7 +62,7 @@ fn put_and_open(
     rt: &(impl Eprint + Alloc<A = Global> + Clock),
     disk: Counted<FileDisk>,
     count: u32,
-) -> anyhow::Result<Told> {
+) -> Result<Told, BenchFault> {
     let disk = put_records(rt, disk, count)?;
     let written = disk.counts.written;
     let (held, opening) = open_again(rt, disk, count)?;
@@ -77,16 +78,16 @@ fn open_again<D: Disk + Drop>(
     rt: &(impl Alloc<A = Global> + Clock),
     disk: D,
     count: u32,
-) -> anyhow::Result<(u64, u64)> {
+) -> Result<(u64, u64), BenchFault> {
     let start = Instant::now(rt)?;
-    let log = open(rt.alloc(), disk, half_for(count))?;
+    let log = or_refused(open(rt.alloc(), disk, half_for(count)))?;
     Ok((log.checkpoint_bytes(), nanos_since(rt, start)?))
 }
 
 /// A new file that has room for the two halves of so many records.
-fn disk_of(rt: &impl Files<File = File>, count: u32) -> anyhow::Result<Counted<FileDisk>> {
+fn disk_of(rt: &impl Files<File = File>, count: u32) -> Result<Counted<FileDisk>, BenchFault> {
     let mut disk = FileDisk::open(rt, PATH, true);
-    grow_to(&mut disk, half_for(count).saturating_mul(2))?;
+    or_refused(grow_to(&mut disk, half_for(count).saturating_mul(2)))?;
     Ok(Counted::new(disk))
 }
 
@@ -102,8 +103,8 @@ fn put_records<D: Disk + Drop>(
     rt: &(impl Eprint + Alloc<A = Global> + Clock),
     disk: D,
     count: u32,
-) -> anyhow::Result<D> {
-    let mut log = format(rt.alloc(), disk, half_for(count))?;
+) -> Result<D, BenchFault> {
+    let mut log = or_refused(format(rt.alloc(), disk, half_for(count)))?;
     time_puts(rt, &mut log, count)?;
     Ok(log.into_disk())
 }
@@ -112,9 +113,9 @@ fn time_puts<D: Disk>(
     rt: &(impl Eprint + Clock),
     log: &mut MetaLog<D>,
     count: u32,
-) -> anyhow::Result<()> {
+) -> Result<(), BenchFault> {
     let start = Instant::now(rt)?;
-    put_all(log, count)?;
+    or_refused(put_all(log, count))?;
     per_second(rt, "journal.put", count, start)?;
     Ok(())
 }

@@ -1,13 +1,14 @@
 // The path of a script: lines and payloads in, answers out.
+use crate::faults::{BenchFault, or_refused};
 use crate::report::{nanos_since, rate};
 use crate::scripts::{FILE_BYTES, add_payload};
-use crate::served::{Served, time_run};
+use crate::served::{Served, time_over};
 use cmdlet_line::Words;
 use std::alloc::{AllocError, Global};
 use std::io;
 use std::rt::Clock as SystemTime;
 use std::time::Instant;
-use vdisk::{Failed, MemoryClock, MemoryDisk, MemorySink, MemorySource, Sink, Source};
+use vdisk::{Failed, MemoryDisk, MemorySink, MemorySource, Sink, Source};
 
 /// The bytes of one piece of a copy.
 const COPY: usize = 65_536;
@@ -17,7 +18,7 @@ const COPY: usize = 65_536;
 pub fn measure(
     rt: &(impl Print + Eprint + Alloc<A = Global> + SystemTime),
     size: u32,
-) -> anyhow::Result<()> {
+) -> Result<(), BenchFault> {
     let script = script_of(rt.alloc(), size)?;
     copy_whole(rt, script.clone()?)?;
     serve_whole(rt, script)
@@ -27,7 +28,7 @@ pub fn measure(
 fn copy_whole(
     rt: &(impl Eprint + Alloc<A = Global> + SystemTime),
     script: Vec<u8>,
-) -> anyhow::Result<()> {
+) -> Result<(), BenchFault> {
     let came = script.len() as u64;
     let sink = MemorySink::new(rt.alloc());
     let nanos = time_copy(rt, MemorySource::new(script), sink)?;
@@ -39,7 +40,7 @@ fn time_copy<S: Source + Drop, K: Sink + Drop>(
     rt: &(impl Alloc<A = Global> + SystemTime),
     mut source: S,
     mut sink: K,
-) -> anyhow::Result<u64> {
+) -> Result<u64, BenchFault> {
     let start = Instant::now(rt)?;
     copy(rt.alloc(), &mut source, &mut sink)?;
     Ok(nanos_since(rt, start)?)
@@ -49,7 +50,7 @@ fn time_copy<S: Source + Drop, K: Sink + Drop>(
 fn serve_whole(
     rt: &(impl Print + Eprint + Alloc<A = Global> + SystemTime),
     script: Vec<u8>,
-) -> anyhow::Result<()> {
+) -> Result<(), BenchFault> {
     let came = script.len() as u64;
     let mut sink = MemorySink::new(rt.alloc());
     let served = serve(rt, MemorySource::new(script), &mut sink)?;
@@ -57,15 +58,14 @@ fn serve_whole(
     Ok(())
 }
 
-fn serve(
+fn serve<S: Source + Drop, K: Sink>(
     rt: &(impl Alloc<A = Global> + SystemTime),
-    mut source: MemorySource,
-    sink: &mut MemorySink,
-) -> anyhow::Result<Served> {
-    let words = words_of(rt.alloc())?;
-    let mut disk = MemoryDisk::new(rt.alloc(), 0)?;
-    let mut clock = MemoryClock::new(0);
-    Ok(time_run(rt, &words, &mut source, sink, &mut disk, &mut clock)?)
+    mut source: S,
+    sink: &mut K,
+) -> Result<Served, BenchFault> {
+    let words = or_refused(words_of(rt.alloc()))?;
+    let mut disk = or_refused(MemoryDisk::new(rt.alloc(), 0))?;
+    Ok(time_over(rt, &words, &mut source, sink, &mut disk)?)
 }
 
 /// Tells what a run came to, over so many bytes that came and went.
@@ -113,12 +113,12 @@ fn add_reads(alloc: Global, script: &mut Vec<u8>, pieces: u32) -> Result<(), All
 }
 
 /// Copies what a source has to a sink.
-fn copy<S: Source, K: Sink>(alloc: Global, source: &mut S, sink: &mut K) -> anyhow::Result<()> {
+fn copy<S: Source, K: Sink>(alloc: Global, source: &mut S, sink: &mut K) -> Result<(), BenchFault> {
     let mut piece = vec![in alloc; 0u8; COPY]?;
     for _ in 0..u64::MAX {
-        match read(source, &mut piece)? {
+        match or_refused(read(source, &mut piece))? {
             0 => break,
-            count => put(sink, piece.get(..count).unwrap_or(&[]))?,
+            count => or_refused(put(sink, piece.get(..count).unwrap_or(&[])))?,
         }
     }
     Ok(())

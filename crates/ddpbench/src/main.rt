@@ -7,6 +7,7 @@
 mod calls;
 mod counted;
 mod cut;
+mod faults;
 mod files;
 mod index;
 mod journal;
@@ -21,6 +22,7 @@ mod served;
 mod space;
 mod store;
 
+use faults::{BenchFault, or_refused};
 use std::env;
 use std::process::ExitCode;
 use vdisk::StandardStreams;
@@ -31,9 +33,9 @@ const MOST_MEBIBYTES: u32 = 1024;
 const USAGE: &str =
     "usage: ddpbench cut|lines|store MB, or ddpbench index|journal|map|overwrite|space COUNT";
 
-fn main(rt: HostRuntime) -> anyhow::Result<ExitCode> {
+fn main(rt: HostRuntime) -> Result<ExitCode, BenchFault> {
     // Taken first and kept to the end: no file of a bench gets the number of a stream that is closed.
-    let _streams = StandardStreams::hold(&rt)?;
+    let _streams = or_refused(StandardStreams::hold(&rt))?;
     let mut words = env::args(&rt)?;
     let _program = words.next();
     let (Some(bench), Some(size)) = (words.next(), words.next()) else {
@@ -46,12 +48,12 @@ fn main(rt: HostRuntime) -> anyhow::Result<ExitCode> {
 }
 
 /// Says how the program is called.
-fn refuse(rt: &HostRuntime) -> anyhow::Result<ExitCode> {
+fn refuse(rt: &HostRuntime) -> Result<ExitCode, BenchFault> {
     rt.eprintln(USAGE)?;
     Ok(ExitCode::from(2))
 }
 
-fn measure(rt: &HostRuntime, bench: &str, size: u32) -> anyhow::Result<ExitCode> {
+fn measure(rt: &HostRuntime, bench: &str, size: u32) -> Result<ExitCode, BenchFault> {
     let measured = match bench {
         "cut" if size <= MOST_MEBIBYTES => cut::measure(rt, size),
         "lines" if size <= MOST_MEBIBYTES => lines::measure(rt, size),

@@ -1,4 +1,5 @@
 // Puts, look-ups and steps in the map of byte strings.
+use crate::faults::BenchFault;
 use crate::random::mixed;
 use crate::report::cost_among;
 use byte_map::ByteMap;
@@ -17,7 +18,7 @@ const VALUE: [u8; 16] = [7; 16];
 pub fn measure(
     rt: &(impl Print + Eprint + Alloc<A = Global> + Clock),
     count: u32,
-) -> anyhow::Result<()> {
+) -> Result<(), BenchFault> {
     for smaller in SMALLER {
         if smaller < count {
             measure_one(rt, smaller)?;
@@ -29,7 +30,7 @@ pub fn measure(
 fn measure_one(
     rt: &(impl Print + Eprint + Alloc<A = Global> + Clock),
     count: u32,
-) -> anyhow::Result<()> {
+) -> Result<(), BenchFault> {
     let mut map = ByteMap::new(rt.alloc());
     measure_calls(rt, &mut map, count)
 }
@@ -38,7 +39,7 @@ fn measure_calls(
     rt: &(impl Print + Eprint + Clock),
     map: &mut ByteMap,
     count: u32,
-) -> anyhow::Result<()> {
+) -> Result<(), BenchFault> {
     time_puts(rt, map, count)?;
     let found = time_finds(rt, map, count)?;
     let stepped = time_steps(rt, map, count)?;
@@ -47,7 +48,7 @@ fn measure_calls(
     Ok(())
 }
 
-fn time_puts(rt: &(impl Eprint + Clock), map: &mut ByteMap, count: u32) -> anyhow::Result<()> {
+fn time_puts(rt: &(impl Eprint + Clock), map: &mut ByteMap, count: u32) -> Result<(), BenchFault> {
     let start = Instant::now(rt)?;
     put_all(map, count)?;
     cost_among(rt, "map.put", count, start)?;

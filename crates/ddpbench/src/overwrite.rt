@@ -1,11 +1,11 @@
 // Random overwrites of blocks in a large and in a small file of one volume over a real file.
 use crate::calls::{create, flush, format, write};
 use crate::counted::{Counted, Counts};
+use crate::faults::BenchFault;
 use crate::files::clear;
 use crate::random::{add_random, mixed};
 use crate::report::{nanos_since, portion};
 use crate::scripts::{BLOCK_BYTES, FILE_BYTES};
-use anyhow::ensure;
 use std::alloc::{AllocError, Global};
 use std::fs::{self, File};
 use std::io;
@@ -54,7 +54,7 @@ struct Times {
 pub fn measure(
     rt: &(impl Print + Eprint + Alloc<A = Global> + Clock + Files<File = File>),
     count: u32,
-) -> anyhow::Result<()> {
+) -> Result<(), BenchFault> {
     clear(rt, PATH);
     let disk = Counted::new(FileDisk::open(rt, PATH, true));
     let (times, counts) = fill_and_overwrite(rt, disk, count)?;
@@ -69,7 +69,7 @@ fn fill_and_overwrite(
     rt: &(impl Alloc<A = Global> + Clock),
     disk: Counted<FileDisk>,
     count: u32,
-) -> anyhow::Result<(Times, Counts)> {
+) -> Result<(Times, Counts), BenchFault> {
     let mut volume = format(rt.alloc(), disk, CLUSTERS)?;
     fill_both(rt, &mut volume)?;
     let times = overwrite_both(rt, &mut volume, count)?;
@@ -96,7 +96,10 @@ fn tell_times(rt: &impl Eprint, count: u32, times: Times) -> io::Result<()> {
     )
 }
 
-fn fill_both<D: Disk>(rt: &impl Alloc<A = Global>, volume: &mut Volume<D>) -> anyhow::Result<()> {
+fn fill_both<D: Disk>(
+    rt: &impl Alloc<A = Global>,
+    volume: &mut Volume<D>,
+) -> Result<(), BenchFault> {
     let bytes = random_bytes(rt.alloc(), FILE_BYTES)?;
     fill(volume, LARGE, &bytes)?;
     fill(volume, SMALL, &bytes)
@@ -107,7 +110,7 @@ fn overwrite_both<D: Disk>(
     rt: &(impl Alloc<A = Global> + Clock),
     volume: &mut Volume<D>,
     count: u32,
-) -> anyhow::Result<Times> {
+) -> Result<Times, BenchFault> {
     let block = random_bytes(rt.alloc(), BLOCK_BYTES)?;
     let large = time_overwrite(rt, volume, LARGE, &block, count)?;
     let small = time_overwrite(rt, volume, SMALL, &block, count)?;
@@ -121,8 +124,8 @@ fn random_bytes(alloc: Global, count: u64) -> Result<Vec<u8>, AllocError> {
 }
 
 /// Creates a file, writes these bytes to each of its MiB, and flushes.
-fn fill<D: Disk>(volume: &mut Volume<D>, file: Target, bytes: &[u8]) -> anyhow::Result<()> {
-    ensure!(create(volume, file.name), "a file was not created");
+fn fill<D: Disk>(volume: &mut Volume<D>, file: Target, bytes: &[u8]) -> Result<(), BenchFault> {
+    done(create(volume, file.name))?;
     for k in 0..file.mebibytes {
         write_at(volume, file, u64::from(k) * FILE_BYTES, bytes)?;
     }
@@ -136,7 +139,7 @@ fn time_overwrite<D: Disk>(
     file: Target,
     block: &[u8],
     count: u32,
-) -> anyhow::Result<u64> {
+) -> Result<u64, BenchFault> {
     let start = Instant::now(rt)?;
     overwrite(volume, file, block, count)?;
     let nanos = nanos_since(rt, start)?;
@@ -149,7 +152,7 @@ fn overwrite<D: Disk>(
     file: Target,
     block: &[u8],
     count: u32,
-) -> anyhow::Result<()> {
+) -> Result<(), BenchFault> {
     for k in 0..count {
         write_at(volume, file, place_of(file, k), block)?;
     }
@@ -161,14 +164,21 @@ fn write_at<D: Disk>(
     file: Target,
     at: u64,
     bytes: &[u8],
-) -> anyhow::Result<()> {
-    ensure!(write(volume, file.name, at, bytes), "a write was refused");
-    Ok(())
+) -> Result<(), BenchFault> {
+    done(write(volume, file.name, at, bytes))
 }
 
-fn flush_all<D: Disk>(volume: &mut Volume<D>) -> anyhow::Result<()> {
-    ensure!(flush(volume), "a flush was refused");
-    Ok(())
+fn flush_all<D: Disk>(volume: &mut Volume<D>) -> Result<(), BenchFault> {
+    done(flush(volume))
+}
+
+/// Goes on only where a call was done.
+fn done(is_done: bool) -> Result<(), BenchFault> {
+    if is_done {
+        Ok(())
+    } else {
+        Err(BenchFault::Refused)
+    }
 }
 
 /// Where a block of a file begins, drawn by a number.

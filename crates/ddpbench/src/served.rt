@@ -6,7 +6,7 @@ use std::alloc::Global;
 use std::io;
 use std::rt::Clock as SystemTime;
 use std::time::Instant;
-use vdisk::{Clock, Disk, Sink, Source};
+use vdisk::{Clock, Disk, MemoryClock, Sink, Source};
 
 /// What a run of the program came to.
 #[derive(Clone, Copy)]
@@ -16,17 +16,17 @@ pub struct Served {
     pub nanos: u64,
 }
 
-/// Serves a script.
-pub fn time_run<S: Source, K: Sink, D: Disk, C: Clock>(
+/// Serves a script, by a clock that stands.
+pub fn time_over<S: Source, K: Sink, D: Disk>(
     rt: &(impl Alloc<A = Global> + SystemTime),
     words: &Words,
     script: &mut S,
     out: &mut K,
     disk: &mut D,
-    clock: &mut C,
 ) -> io::Result<Served> {
+    let mut clock = MemoryClock::new(0);
     let start = Instant::now(rt)?;
-    let (lines, status) = serve(rt.alloc(), words, script, out, disk, clock);
+    let (lines, status) = serve(rt.alloc(), words, script, out, disk, &mut clock);
     let nanos = nanos_since(rt, start)?;
     Ok(Served {
         lines,

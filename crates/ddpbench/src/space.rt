@@ -2,6 +2,7 @@
 ghost use Rattle.std.specs.Prelude.{IfSome};
 ghost use Rattle.cluster_space.specs.States.{IsIn};
 
+use crate::faults::{BenchFault, or_refused};
 use crate::report::cost;
 use cluster_space::{Space, State};
 use std::alloc::Global;
@@ -13,8 +14,8 @@ use std::time::Instant;
 pub fn measure(
     rt: &(impl Print + Eprint + Alloc<A = Global> + Clock),
     count: u32,
-) -> anyhow::Result<()> {
-    let mut space = Space::new(rt.alloc(), count)?;
+) -> Result<(), BenchFault> {
+    let mut space = or_refused(Space::new(rt.alloc(), count))?;
     measure_calls(rt, &mut space, count)?;
     Ok(())
 }

@@ -1,17 +1,18 @@
 // Files stored through the program over a real file, beside a plain copy of their bytes, and written anew.
 use crate::counted::{Counted, Counts};
+use crate::faults::{BenchFault, or_refused};
 use crate::files::clear;
 use crate::memory::most_resident;
 use crate::report::{figure, nanos_since, per_mebibyte, portion, rate};
 use crate::scripts::{FILE_BYTES, ingest_script, rewrite_script};
-use crate::served::{Served, time_run};
-use cmdlet_line::Words;
+use crate::served::{Served, time_over};
+use cmdlet_line::{Memory, Words};
 use std::alloc::Global;
 use std::fs::{self, File};
 use std::io::{self, Write};
 use std::rt::{Clock as SystemTime, Files};
 use std::time::Instant;
-use vdisk::{Disk, FileDisk, MemoryClock, MemorySink, MemorySource};
+use vdisk::{Disk, FileDisk, MemorySink, MemorySource, Source};
 
 /// The image, and the copy, in the folder that the bench is started in.
 const IMAGE: &str = "ddpbench-store.img";
@@ -64,7 +65,7 @@ const REWRITE: Names = Names {
 pub fn measure(
     rt: &(impl Print + Eprint + Alloc<A = Global> + SystemTime + Files<File = File>),
     size: u32,
-) -> anyhow::Result<()> {
+) -> Result<(), BenchFault> {
     clear(rt, IMAGE);
     copy_and_ingest(rt, size)?;
     mount(rt)?;
@@ -77,7 +78,7 @@ pub fn measure(
 fn copy_and_ingest(
     rt: &(impl Print + Eprint + Alloc<A = Global> + SystemTime + Files<File = File>),
     size: u32,
-) -> anyhow::Result<()> {
+) -> Result<(), BenchFault> {
     let script = ingest_script(rt.alloc(), size)?;
     copy(rt, &script, size)?;
     ingest(rt, script, size)
@@ -88,7 +89,7 @@ fn copy(
     rt: &(impl Eprint + SystemTime + Files<File = File>),
     script: &[u8],
     size: u32,
-) -> anyhow::Result<()> {
+) -> Result<(), BenchFault> {
     let start = Instant::now(rt)?;
     write_copy(rt, script)?;
     let nanos = nanos_since(rt, start)?;
@@ -109,7 +110,7 @@ fn ingest(
     rt: &(impl Print + Eprint + Alloc<A = Global> + SystemTime + Files<File = File>),
     script: Vec<u8>,
     size: u32,
-) -> anyhow::Result<()> {
+) -> Result<(), BenchFault> {
     let before = most_resident(rt)?;
     let stored = serve(rt, format_words(rt.alloc(), size)?, script)?;
     let memory = most_resident(rt)?.saturating_sub(before);
@@ -121,7 +122,7 @@ fn ingest(
 /// Mounts the image for a script with no line.
 fn mount(
     rt: &(impl Print + Eprint + Alloc<A = Global> + SystemTime + Files<File = File>),
-) -> anyhow::Result<()> {
+) -> Result<(), BenchFault> {
     let words = mount_words(rt.alloc())?;
     let served = serve(rt, words, Vec::new(rt.alloc()))?.served;
     println!(rt; "store mounted {}", served.status)?;
@@ -133,9 +134,10 @@ fn mount(
 fn rewrite(
     rt: &(impl Print + Eprint + Alloc<A = Global> + SystemTime + Files<File = File>),
     size: u32,
-) -> anyhow::Result<()> {
+) -> Result<(), BenchFault> {
     let script = rewrite_script(rt.alloc(), size)?;
-    let stored = serve(rt, mount_words(rt.alloc())?, script)?;
+    let words = mount_words(rt.alloc())?;
+    let stored = serve(rt, words, script)?;
     tell(rt, REWRITE, size, stored)?;
     Ok(())
 }
@@ -181,23 +183,30 @@ fn serve(
     Ok(Stored { served, counts })
 }
 
-fn serve_over<D: Disk>(
+fn serve_over<S: Source + Drop, D: Disk>(
     rt: &(impl Alloc<A = Global> + SystemTime),
     words: &Words,
-    mut script: MemorySource,
+    mut script: S,
     disk: &mut D,
 ) -> io::Result<Served> {
     let mut out = MemorySink::new(rt.alloc());
-    let mut clock = MemoryClock::new(0);
-    time_run(rt, words, &mut script, &mut out, disk, &mut clock)
+    time_over(rt, words, &mut script, &mut out, disk)
 }
 
 /// The words that format an image with room for so many files of a MiB.
-fn format_words(alloc: Global, size: u32) -> anyhow::Result<Words> {
+fn format_words(alloc: Global, size: u32) -> Result<Words, BenchFault> {
     let clusters = clusters_for(size);
-    let mut words = mount_words(alloc)?;
-    words.push("--format")?;
-    words.push(&format!(in alloc; "{clusters}")?)?;
+    let clusters = format!(in alloc; "{clusters}")?;
+    or_refused(words_with(alloc, &["--format", &clusters]))
+}
+
+/// The words that name the image, and these.
+fn words_with(alloc: Global, more: &[&str]) -> Result<Words, Memory> {
+    let mut words = Words::new(alloc);
+    words.push(IMAGE)?;
+    for word in more {
+        words.push(word)?;
+    }
     Ok(words)
 }
 
@@ -209,8 +218,6 @@ fn clusters_for(size: u32) -> u64 {
 }
 
 /// The words that mount the image.
-fn mount_words(alloc: Global) -> anyhow::Result<Words> {
-    let mut words = Words::new(alloc);
-    words.push(IMAGE)?;
-    Ok(words)
+fn mount_words(alloc: Global) -> Result<Words, BenchFault> {
+    or_refused(words_with(alloc, &[]))
 }

@@ -9,7 +9,7 @@ use Rattle.plain_volume.specs.declared.call.Reply.{Reply}
 use Rattle.plain_volume.specs.declared.call.Fault.{Fault}
 use Rattle.plain_volume.specs.declared.call.Fault.TheVariants as fault
 use Rattle.volume_tables.specs.Tables.{would_wear}
-use Rattle.volume_core.specs.Bounds.{touched_by, changed_by, HasSpent, IsSpentIn}
+use Rattle.volume_core.specs.Bounds.{changed_by, HasSpent, IsSpentIn}
 use Rattle.volume_core.specs.Volumes.{clusters_in, view_now, stopped}
 use Rattle.volume_core.specs.Wants.{wants_of}
 use Rattle.volume_core.specs.declared.volume.Volume.{Volume as Engine}
@@ -20,7 +20,6 @@ use Rattle.ddpsh.specs.Runs.{Entry, calls_of}
 use Rattle.ddpsh.specs.Served.{volume_state}
 use Rattle.ddpsh.specs.Sessions.{state_of}
 use Rattle.ddpsh.specs.Steps.{Spending}
-use Rattle.ddpsh.specs.declared.commands.Command.{Command}
 use Rattle.ddpsh.specs.declared.commands.Command.TheVariants.{Mount, Format}
 use Rattle.ddpsh.specs.declared.session.Session.{Session}
 use Rattle.ddpsh.proofs.RunLaws.{calls_more}

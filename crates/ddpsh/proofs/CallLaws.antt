@@ -7,7 +7,7 @@ use Rattle.vdisk.specs.Causes.{Rose}
 use Rattle.vdisk.specs.declared.disk.Disk.{Ghosts}
 use Rattle.plain_volume.specs.Volume.{Volume}
 use Rattle.plain_volume.specs.Volume.{Cell, is_lawful, cells_of, lost_where, is_within, bytes_of}
-use Rattle.plain_volume.specs.Step.{plain, after, left_by, Step, StepOf, Legal, Outcome, MayLack, may_want, refuse_if, at_file, unless_lost, next_name, read, read_whole, digest, stat}
+use Rattle.plain_volume.specs.Step.{plain, after, left_by, Step, StepOf, Outcome, MayLack, may_want, takes_memory, refuse_if, at_file, unless_lost, next_name, read, read_whole, digest, stat}
 use Rattle.sha2.specs.Sha256.{sha256}
 use Rattle.plain_volume.specs.Replies.{own_reply, done_reply}
 use Rattle.plain_volume.specs.Laws.{OwnRepliesAreSteps}
@@ -17,22 +17,26 @@ use Rattle.plain_volume.specs.declared.call.Reply.{Reply}
 use Rattle.plain_volume.specs.declared.call.Reply.TheVariants as reply
 use Rattle.plain_volume.specs.declared.call.Fault.{Fault}
 use Rattle.plain_volume.specs.declared.call.Fault.TheVariants as fault
-use Rattle.volume_files.specs.Wants.{is_late, reply_of, IsFailed, IsReplied, IsRepliedOrMemory}
+use Rattle.volume_files.specs.Wants.{is_late, reply_of, IsReplied}
 use Rattle.cmdlet_line.specs.Lines.{Ask, Create, Write, Read, Fill, Length, Rename, Delete, Digest, Stat, Listing, Flush, Exit}
+use Rattle.meta_log.specs.Meta.{last_epoch}
+use Rattle.volume_inside.specs.Inside.{Inside}
+use Rattle.volume_core.specs.States.{volume_in}
+use Rattle.volume_core.specs.Moves.{Moves, inside_after}
+use Rattle.volume_core.specs.Replies.{RepliesOrMemory}
 use Rattle.ddpsh.specs.States.{State, reply_in}
 use Rattle.ddpsh.specs.Listing.{listing}
 use Rattle.ddpsh.specs.Crashes.{Carries}
-use Rattle.ddpsh.specs.Script.{Item, Bad, Bare, Paid, Cut, Spoilt, with_payload, ends_well}
-use Rattle.ddpsh.specs.Answers.{Answer, Nothing, Accepted, Refused, Comes, Starts, Begun, OneCall, NoCall, Unmounts, OneBegun, said, said_fault, number, fault_text, text_of, is_accepted, is_exit}
+use Rattle.ddpsh.specs.Script.{Item, Bare, Paid, Cut, Spoilt, with_payload, ends_well}
+use Rattle.ddpsh.specs.Answers.{Answer, Nothing, Accepted, Refused, Comes, Starts, Begun, OneCall, NoCall, OneBegun, said, said_fault, number, fault_text, text_of, is_accepted, is_exit}
 use Rattle.ddpsh.specs.Runs.{Made, acknowledges}
 use Rattle.ddpsh.specs.Saying.{IsSaid, plain_kind, exit_kind, kind_of}
 use Rattle.volume_core.specs.Bounds.{Adds}
-use Rattle.volume_core.specs.Volumes.{disk_of, device_of, view_now, stopped, IsKept, Endures}
+use Rattle.volume_core.specs.Volumes.{disk_of, view_now, stopped, IsKept, Endures}
 use Rattle.volume_core.specs.Wants.{wants_of, IsWant}
-use Rattle.ddpsh.specs.Served.{volume_state, IsServed, IsBroken, ComesTo, Attempts, StaysSame, IsSteady}
+use Rattle.ddpsh.specs.Served.{volume_state, IsStored, IsDurable, IsServed, IsBroken, ComesTo, StaysSame, IsSteady}
 use Rattle.ddpsh.specs.declared.answers.Answered.{Answered}
 use Rattle.ddpsh.specs.declared.answers.Answered.TheVariants as answered
-use Rattle.ddpsh.specs.declared.calls.Attempt.{Attempt}
 use Rattle.ddpsh.specs.declared.stops.SessionFault.{SessionFault}
 use Rattle.ddpsh.specs.declared.stops.SessionFault.TheVariants as stop
 use Rattle.volume_core.specs.declared.volume.Volume.{Volume as Engine}
@@ -51,7 +55,7 @@ begun_none (Digest name) payload v = inl refl
 begun_none (Stat name) payload v = inl refl
 begun_none Listing payload v = record {
   front = [];
-  rest = listing None v.volume;
+  rest = listing None (volume_in v);
   last = [];
   whole = refl;
   calls_are = refl;
@@ -65,7 +69,7 @@ starts_none (Bare ask) v = begun_none ask [] v
 starts_none (Paid ask payload) v = begun_none ask payload v
 starts_none other v = refl
 
-reply_cases : (outcome : Outcome) (want : Option Fault) → (reply_of outcome want ≡ own_reply outcome)
+pub reply_cases : (outcome : Outcome) (want : Option Fault) → (reply_of outcome want ≡ own_reply outcome)
     ⊎ ((f : Fault) × (want ≡ Some f) × (reply_of outcome want ≡ reply.Refused f) × IsTrue (is_late outcome))
 reply_cases (Ok answer) None = inl refl
 reply_cases (Ok answer) (Some f) = inr (f, refl, refl, refl)
@@ -74,11 +78,11 @@ reply_cases (Err (fault.Damaged place)) (Some f) = inr (f, refl, refl, refl)
 reply_cases (Err other) want = inl refl
 
 lack_ok : (call : Call) (answer : Reply × Volume) (f : Fault) → IsTrue (may_want call f) → MayLack call (Ok answer) f
-lack_ok call answer fault.Memory h = tt
+lack_ok call answer fault.Memory h = absurd (false≢true h)
 lack_ok call answer other h = h
 
 lack_damaged : (call : Call) (place : ℕ) (f : Fault) → IsTrue (may_want call f) → MayLack call (Err (fault.Damaged place)) f
-lack_damaged call place fault.Memory h = tt
+lack_damaged call place fault.Memory h = absurd (false≢true h)
 lack_damaged call place other h = h
 
 lack_late : (call : Call) (outcome : Outcome) (f : Fault) → IsTrue (is_late outcome) → IsTrue (may_want call f) → MayLack call outcome f
@@ -92,11 +96,15 @@ refused_step call v f given is late may =
     let here : P (reply.Refused f) = (refl, inr (lack_late call (plain v call) f late may)) in
     subst P (sym is) here
 
-own_step : OwnRepliesAreSteps → (v : Volume) (call : Call) (given : Reply) → (given ≡ own_reply (plain v call)) ⊎ (given ≡ reply.Refused fault.Memory) → Step v call given (after v call given)
+own_step : OwnRepliesAreSteps → (v : Volume) (call : Call) (given : Reply) → (given ≡ own_reply (plain v call)) ⊎ ((given ≡ reply.Refused fault.Memory) × IsTrue (takes_memory call)) → Step v call given (after v call given)
 own_step law v call given own = law v (after v call given) call given (record { own = own; left = refl })
 
+-- what a call answers: want of memory only where it takes some
+abbrev pub Replied : Call → Outcome → Option Fault → ℕ → ℕ → Reply → Type 0
+Replied call outcome want before now given = IsReplied outcome want before now given ⊎ ((given ≡ reply.Refused fault.Memory) × IsTrue (takes_memory call))
+
 pub step_of : OwnRepliesAreSteps → (v : Volume) (call : Call) (want : Option Fault) (given : Reply) (before now : ℕ) → IsTrue (may_want call fault.Failed) → IsWant call want
-    → IsRepliedOrMemory (plain v call) want before now given → Step v call given (after v call given)
+    → Replied call (plain v call) want before now given → Step v call given (after v call given)
 step_of law v call want given before now fails wanted (inl (inl own)) = ⊎_elim
     (λ same. own_step law v call given (inl (own ∙ same)))
     (λ lacks. refused_step call v lacks.0 given (own ∙ lacks.2) lacks.3 (subst (λ (o : Option Fault). IsWant call o) lacks.1 wanted))
@@ -105,17 +113,17 @@ step_of law v call want given before now fails wanted (inl (inr failed)) = refus
 step_of law v call want given before now fails wanted (inr memory) = own_step law v call given (inr memory)
 
 -- a reply that prints an answer is that of the state
-own_said : (outcome : Outcome) (want : Option Fault) (given : Reply) (answer : Answer) (before now : ℕ) → IsRepliedOrMemory outcome want before now given → said given ≡ Some answer → given ≡ reply_of outcome want
-own_said outcome want given answer before now (inl (inl own)) says = own
-own_said outcome want given answer before now (inl (inr failed)) says = absurd (let bad : None ≡ Some answer = sym (ap said failed.0) ∙ says in cc)
-own_said outcome want given answer before now (inr memory) says = absurd (let bad : None ≡ Some answer = sym (ap said memory) ∙ says in cc)
+own_said : (call : Call) (outcome : Outcome) (want : Option Fault) (given : Reply) (answer : Answer) (before now : ℕ) → Replied call outcome want before now given → said given ≡ Some answer → given ≡ reply_of outcome want
+own_said call outcome want given answer before now (inl (inl own)) says = own
+own_said call outcome want given answer before now (inl (inr failed)) says = absurd (let bad : None ≡ Some answer = sym (ap said failed.0) ∙ says in cc)
+own_said call outcome want given answer before now (inr memory) says = absurd (let bad : None ≡ Some answer = sym (ap said memory.0) ∙ says in cc)
 
 -- what was replied where a line was begun
-begun_given : (outcome : Outcome) (want : Option Fault) (given : Reply) (before now : ℕ) → IsRepliedOrMemory outcome want before now given
-    → (given ≡ reply_of outcome want) ⊎ ((given ≡ reply.Refused fault.Memory) ⊎ (given ≡ reply.Refused fault.Failed))
-begun_given outcome want given before now (inl (inl own)) = inl own
-begun_given outcome want given before now (inl (inr failed)) = inr (inr failed.0)
-begun_given outcome want given before now (inr memory) = inr (inl memory)
+begun_given : (call : Call) (outcome : Outcome) (want : Option Fault) (given : Reply) (before now : ℕ) → Replied call outcome want before now given
+    → (given ≡ reply_of outcome want) ⊎ (((given ≡ reply.Refused fault.Memory) × IsTrue (takes_memory call)) ⊎ (given ≡ reply.Refused fault.Failed))
+begun_given call outcome want given before now (inl (inl own)) = inl own
+begun_given call outcome want given before now (inl (inr failed)) = inr (inr failed.0)
+begun_given call outcome want given before now (inr memory) = inr (inl memory)
 
 -- an answer of a line before it is written
 abbrev pub Says : Reply → List ℕ → Answered → Type 0
@@ -135,7 +143,7 @@ runs_unless (Ok x) true h = let bad : Ok x ≡ Err stop.Device = h refl in absur
 runs_unless (Ok x) false h = refl
 runs_unless (Err e) s h = tt
 
-reply_unwanting : (outcome : Outcome) → reply_of outcome None ≡ own_reply outcome
+pub reply_unwanting : (outcome : Outcome) → reply_of outcome None ≡ own_reply outcome
 reply_unwanting (Ok answer) = refl
 reply_unwanting (Err (fault.Damaged place)) = refl
 reply_unwanting (Err other) = refl
@@ -151,29 +159,36 @@ pub record Fits (item : Item) (call : Call) : Type 0 where
   pub starts : (v : State) (calls : List (Call × Reply)) → OneBegun call v calls → Starts item v calls
   pub kind : (answer : Answer) → kind_of item answer ≡ plain_kind answer
 
+stat_inside : (i : Inside) (name : List ℕ) (given : Reply) → inside_after (call.Stat name) given i ≡ i
+stat_inside i name (reply.Refused f) = refl
+stat_inside i name other = refl
+
 module _ {D : Type 0} {d : Ghosts D} where
   -- what a call over a volume did
   pub record Called (call : Call) (old new : Engine D d) (given : Reply) : Type 0 where
     pub law : OwnRepliesAreSteps
-    pub replied : IsRepliedOrMemory (plain (view_now old) call) (wants_of old call) (disk_of old).faults (disk_of new).faults given
+    pub replied : Replied call (plain (view_now old) call) (wants_of old call) (disk_of old).faults (disk_of new).faults given
     pub left : view_now new ≡ after (view_now old) call given
     pub want : IsWant call (wants_of old call)
     pub fails : IsTrue (may_want call fault.Failed)
+    pub moves : Moves call given (volume_state old) (volume_state new)
     pub endures : Endures old new
     pub adds : Adds call old new
 
   -- what a call did that looks at the volume alone, and wants no resource but memory
   pub record Told (call : Call) (v : Engine D d) (given : Reply) : Type 0 where
     pub law : OwnRepliesAreSteps
-    pub own : (given ≡ own_reply (plain (view_now v) call)) ⊎ (given ≡ reply.Refused fault.Memory)
+    pub own : (given ≡ own_reply (plain (view_now v) call)) ⊎ ((given ≡ reply.Refused fault.Memory) × IsTrue (takes_memory call))
+    pub moves : Moves call given (volume_state v) (volume_state v)
     pub left : view_now v ≡ after (view_now v) call given
     pub unwanting : wants_of v call ≡ None
 
   -- what a call of a line did
   record Stepped (call : Call) (old new : Engine D d) (given : Reply) : Type 0 where
     pub step : Step (view_now old) call given (after (view_now old) call given)
-    pub replied : IsRepliedOrMemory (plain (view_now old) call) (wants_of old call) (disk_of old).faults (disk_of new).faults given
+    pub replied : Replied call (plain (view_now old) call) (wants_of old call) (disk_of old).faults (disk_of new).faults given
     pub left : view_now new ≡ after (view_now old) call given
+    pub moves : Moves call given (volume_state old) (volume_state new)
     pub carries : Carries old new ((call, given) ∷ [])
 
   stepped_call : (call : Call) (old new : Engine D d) (given : Reply) → Called call old new given → Stepped call old new given
@@ -181,10 +196,11 @@ module _ {D : Type 0} {d : Ghosts D} where
     step = step_of did.law (view_now old) call (wants_of old call) given (disk_of old).faults (disk_of new).faults did.fails did.want did.replied;
     replied = did.replied;
     left = did.left;
+    moves = did.moves;
     carries = carries_call call old new ((call, given) ∷ []) did.endures did.adds (omega arith);
   }
 
-  told_reply : (call : Call) (v : Engine D d) (given : Reply) → Told call v given → IsRepliedOrMemory (plain (view_now v) call) (wants_of v call) (disk_of v).faults (disk_of v).faults given
+  told_reply : (call : Call) (v : Engine D d) (given : Reply) → Told call v given → Replied call (plain (view_now v) call) (wants_of v call) (disk_of v).faults (disk_of v).faults given
   told_reply call v given did = ⊎_elim
       (λ own. inl (inl (own ∙ (sym (reply_unwanting (plain (view_now v) call)) ∙ ap (reply_of (plain (view_now v) call)) (sym did.unwanting)))))
       (λ memory. inr memory) did.own
@@ -194,17 +210,27 @@ module _ {D : Type 0} {d : Ghosts D} where
     step = own_step did.law (view_now v) call given did.own;
     replied = told_reply call v given did;
     left = did.left;
+    moves = did.moves;
     carries = carries_idle v ((call, given) ∷ []);
   }
 
+  -- a call that takes memory
+  pub took : (call : Call) (old new : Engine D d) (given : Reply) → IsTrue (takes_memory call) → RepliesOrMemory call old new given → Replied call (plain (view_now old) call) (wants_of old call) (disk_of old).faults (disk_of new).faults given
+  took call old new given takes (inl replied) = inl replied
+  took call old new given takes (inr memory) = inr (memory, takes)
+
+  -- a file's length is asked for
+  pub stat_moves : (v : Engine D d) (name : List ℕ) (given : Reply) → ((volume_state v).wears ≡ true → (volume_state v).epoch ≡ last_epoch) → Moves (call.Stat name) given (volume_state v) (volume_state v)
+  stat_moves v name given law = record { inside = sym (stat_inside (volume_state v).inside name given); clusters = refl; epoch = λ h. omega arith; wears = law }
+
   made_one : (call : Call) (old new : Engine D d) (given : Reply) → Stepped call old new given → Made (volume_state old) (volume_state new) ((call, given) ∷ [])
-  made_one call old new given did = record { legal = (did.step, tt); now = did.left }
+  made_one call old new given did = record { legal = (did.step, tt); now = did.left; inside = did.moves.inside; clusters = did.moves.clusters }
 
   served_call : (item : Item) (call : Call) (old new : Engine D d) (given : Reply) (kind : Answered) (text : List ℕ) → Stepped call old new given → Fits item call
-      → ((answer : Answer) → said given ≡ Some answer → acknowledges item answer ≡ true → IsKept new (view_now new)) → Says given text kind → IsServed item old new 1 kind text
+      → ((answer : Answer) → said given ≡ Some answer → acknowledges item answer ≡ true → IsDurable new) → Says given text kind → IsServed item old new 1 kind text
   served_call item call old new given kind text did fits durable says =
       let own : given ≡ reply_in (volume_state old) call =
-      own_said (plain (view_now old) call) (wants_of old call) given says.0 (disk_of old).faults (disk_of new).faults did.replied says.1 in
+      own_said call (plain (view_now old) call) (wants_of old call) given says.0 (disk_of old).faults (disk_of new).faults did.replied says.1 in
       record {
         calls = (call, given) ∷ [];
         answer = says.0;
@@ -212,11 +238,12 @@ module _ {D : Type 0} {d : Ghosts D} where
           calls_are = ap (λ g. (call, g) ∷ []) own;
           says = sym (ap said own) ∙ says.1;
           leaves = did.left ∙ ap (after (view_now old) call) own;
+          moves = subst (λ (g : Reply). Moves call g (volume_state old) (volume_state new)) own did.moves;
         });
         legal = made_one call old new given did;
         count = refl;
         carries = did.carries;
-        kept = durable says.0 says.1;
+        durable = durable says.0 says.1;
         text_is = says.2.text_is;
         kind_is = says.2.kind_is ∙ sym (fits.kind says.0);
       }
@@ -225,14 +252,14 @@ module _ {D : Type 0} {d : Ghosts D} where
   broke_call item call old new given did fits = record {
     calls = (call, given) ∷ [];
     starts = fits.starts (volume_state old) ((call, given) ∷ [])
-        (inr (given, refl, begun_given (plain (view_now old) call) (wants_of old call) given (disk_of old).faults (disk_of new).faults did.replied));
+        (inr (given, refl, begun_given call (plain (view_now old) call) (wants_of old call) given (disk_of old).faults (disk_of new).faults did.replied));
     legal = made_one call old new given did;
     count = refl;
     carries = did.carries;
   }
 
   pub comes_call : (item : Item) (call : Call) (old new : Engine D d) (given : Reply) (text : List ℕ) (r : Result Answered SessionFault) → Called call old new given → Fits item call
-      → ((answer : Answer) → said given ≡ Some answer → acknowledges item answer ≡ true → IsKept new (view_now new)) → IfOk r (Says given text) → ComesTo item old new 1 r text
+      → ((answer : Answer) → said given ≡ Some answer → acknowledges item answer ≡ true → IsDurable new) → IfOk r (Says given text) → ComesTo item old new 1 r text
   comes_call item call old new given text (Ok kind) did fits durable says = served_call item call old new given kind text (stepped_call call old new given did) fits durable says
   comes_call item call old new given text (Err f) did fits durable says = broke_call item call old new given (stepped_call call old new given did) fits
 
@@ -257,7 +284,7 @@ module _ {D : Type 0} {d : Ghosts D} where
     legal = made_none (volume_state v);
     count = refl;
     carries = carries_none v;
-    kept = λ h. absurd (false≢true (sym undurable ∙ h));
+    durable = λ h. absurd (false≢true (sym undurable ∙ h));
     text_is = said.text_is;
     kind_is = said.kind_is ∙ sym (plain_one (says (volume_state v)));
   }
@@ -299,7 +326,11 @@ refused_said other answer h =
 flush_said : (v : Volume) (want : Option Fault) (before now : ℕ) (r : Result (Unit {0}) Fault) (answer : Answer) → IsReplied (plain v call.Flush) want before now (done_reply r)
     → said (done_reply r) ≡ Some answer → said (reply_of (plain v call.Flush) want) ≡ Some answer
 flush_said v want before now r answer replied says =
-    sym (ap said (own_said (plain v call.Flush) want (done_reply r) answer before now (inl replied) says)) ∙ says
+    sym (ap said (own_said call.Flush (plain v call.Flush) want (done_reply r) answer before now (inl replied) says)) ∙ says
+
+flush_inside : (i : Inside) (r : Result (Unit {0}) Fault) → inside_after call.Flush (done_reply r) i ≡ i
+flush_inside i (Ok done) = refl
+flush_inside i (Err f) = refl
 
 flush_after : (v : Volume) (r : Result (Unit {0}) Fault) → after v call.Flush (done_reply r) ≡ v
 flush_after v (Ok done) = refl
@@ -316,6 +347,8 @@ module _ {D : Type 0} {d : Ghosts D} where
     pub replied : IsReplied (plain (view_now old) call.Flush) (wants_of old call.Flush) (disk_of old).faults (disk_of new).faults (done_reply r)
     pub left : view_now new ≡ after (view_now old) call.Flush (done_reply r)
     pub durable : OnOk r (IsKept new (view_now old))
+    pub stored : OnOk r (IsStored new)
+    pub moves : Moves call.Flush (done_reply r) (volume_state old) (volume_state new)
     pub endures : Endures old new
     pub adds : Adds call.Flush old new
 
@@ -323,26 +356,33 @@ module _ {D : Type 0} {d : Ghosts D} where
   flush_view old new r did = did.left ∙ flush_after (view_now old) r
 
   pub flush_made : (old new : Engine D d) (r : Result (Unit {0}) Fault) → Flushed old new r → Made (volume_state old) (volume_state new) []
-  flush_made old new r did = record { legal = tt; now = flush_view old new r did }
+  flush_made old new r did = record { legal = tt; now = flush_view old new r did; inside = did.moves.inside ∙ flush_inside (volume_state old).inside r; clusters = did.moves.clusters }
 
-  pub flush_kept : (old new : Engine D d) (r : Result (Unit {0}) Fault) (answer : Answer) → said (done_reply r) ≡ Some answer → is_accepted answer ≡ true → Flushed old new r → IsKept new (view_now new)
-  flush_kept old new (Ok done) answer says given did = subst (λ (w : Volume). IsKept new w) (sym (flush_view old new (Ok done) did)) did.durable
+  pub flush_kept : (old new : Engine D d) (r : Result (Unit {0}) Fault) (answer : Answer) → said (done_reply r) ≡ Some answer → is_accepted answer ≡ true → Flushed old new r → IsDurable new
+  flush_kept old new (Ok done) answer says given did = record { kept = subst (λ (w : Volume). IsKept new w) (sym (flush_view old new (Ok done) did)) did.durable; stored = did.stored }
   flush_kept old new (Err f) answer says given did = absurd (false≢true (sym (refused_said f answer says) ∙ given))
 
   pub flush_says : (old new : Engine D d) (r : Result (Unit {0}) Fault) (answer : Answer) → Flushed old new r → said (done_reply r) ≡ Some answer
       → said (reply_in (volume_state old) call.Flush) ≡ Some answer
   flush_says old new r answer did says = flush_said (view_now old) (wants_of old call.Flush) (disk_of old).faults (disk_of new).faults r answer did.replied says
 
+  -- a flush that prints an answer moves as its state replies
+  flush_moves : (old new : Engine D d) (r : Result (Unit {0}) Fault) (answer : Answer) → Flushed old new r → said (done_reply r) ≡ Some answer
+      → Moves call.Flush (reply_in (volume_state old) call.Flush) (volume_state old) (volume_state new)
+  flush_moves old new r answer did says =
+      subst (λ (g : Reply). Moves call.Flush g (volume_state old) (volume_state new))
+      (own_said call.Flush (plain (view_now old) call.Flush) (wants_of old call.Flush) (done_reply r) answer (disk_of old).faults (disk_of new).faults (inl did.replied) says) did.moves
+
   -- an `exit` let the volume go
   pub exit_done : (old new : Engine D d) (text : List ℕ) → Flushed old new (Ok tt) → text ≡ text_of (Accepted []) → ComesTo (Bare Exit) old new 0 (Ok answered.Exit) text
   exit_done old new text did is = record {
     calls = [];
     answer = Accepted [];
-    comes = record { calls_are = refl; says = flush_says old new (Ok tt) (Accepted []) did refl; leaves = flush_view old new (Ok tt) did };
+    comes = record { calls_are = refl; says = flush_says old new (Ok tt) (Accepted []) did refl; moves = flush_moves old new (Ok tt) (Accepted []) did refl };
     legal = flush_made old new (Ok tt) did;
     count = refl;
     carries = carries_call call.Flush old new [] did.endures did.adds (omega arith);
-    kept = λ h. flush_kept old new (Ok tt) (Accepted []) refl refl did;
+    durable = λ h. flush_kept old new (Ok tt) (Accepted []) refl refl did;
     text_is = is;
     kind_is = refl;
   }
@@ -353,11 +393,11 @@ module _ {D : Type 0} {d : Ghosts D} where
   exit_refused old new text f (Ok kind) did said = record {
     calls = [];
     answer = said.0;
-    comes = record { calls_are = refl; says = flush_says old new (Err f) said.0 did said.1; leaves = flush_view old new (Err f) did };
+    comes = record { calls_are = refl; says = flush_says old new (Err f) said.0 did said.1; moves = flush_moves old new (Err f) said.0 did said.1 };
     legal = flush_made old new (Err f) did;
     count = refl;
     carries = carries_call call.Flush old new [] did.endures did.adds (omega arith);
-    kept = λ h. absurd (false≢true (sym (refused_said f said.0 said.1) ∙ h));
+    durable = λ h. absurd (false≢true (sym (refused_said f said.0 said.1) ∙ h));
     text_is = said.2.text_is;
     kind_is = said.2.kind_is ∙ sym (refused_kind said.0 (refused_said f said.0 said.1));
   }

@@ -1,10 +1,10 @@
 -- What a crash leaves, and what was spent, goes on from call to call.
-use Rattle.std.proofs.Common.{◌≡◌, ◌⊎◌, ◌≤◌, ◌<◌, ◌+◌, ℕ, zero, suc, Bool, true, false, List, [], ◌∷◌, ◌++◌, length, take, refl, sym, ◌∙◌, ap, subst, inl, inr, ⊎_elim, arith, length-append, Contains}
+use Rattle.std.proofs.Common.{◌≡◌, ◌⊎◌, ◌≤◌, ◌+◌, ℕ, zero, suc, false, List, [], ◌∷◌, ◌++◌, length, take, refl, sym, ◌∙◌, ap, subst, inl, inr, ⊎_elim, arith, length-append, Contains}
 use Rattle.std.proofs.lemmas.List.{take-append-le, take_all}
 use Rattle.std.proofs.lemmas.List.Elements.{Contains-push_cases}
 use Rattle.std.proofs.Math.Seq.{take-append-add}
 use Rattle.vdisk.specs.Disk.{DiskState}
-use Rattle.vdisk.specs.Steps.{Keeps, keeps_start, keeps_as}
+use Rattle.vdisk.specs.Steps.{keeps_start, keeps_as}
 use Rattle.vdisk.specs.declared.disk.Disk.{Ghosts}
 use Rattle.plain_volume.specs.Volume.{Volume}
 use Rattle.plain_volume.specs.Step.{replay}
@@ -15,8 +15,8 @@ use Rattle.volume_core.specs.Bounds.{touched_by, changed_by, Adds}
 use Rattle.volume_core.specs.Volumes.{disk_of, area_of, view_now, stopped, clusters_in, IsKept, Endures}
 use Rattle.ddpsh.specs.Bounds.{touched_by_all}
 use Rattle.ddpsh.specs.Crashes.{Mounts, MountsAfter, Carries, AreInOrder, LastsFrom}
-use Rattle.ddpsh.specs.Sessions.{ack_now, acks_if}
-use Rattle.ddpsh.specs.Steps.{Keeping, acks_when}
+use Rattle.ddpsh.specs.Sessions.{ack_now}
+use Rattle.ddpsh.specs.Steps.{Keeping}
 use Rattle.ddpsh.specs.declared.acks.Ack.{Ack}
 use Rattle.volume_core.specs.declared.volume.Volume.{Volume as Engine}
 use Rattle.ddpsh.specs.declared.session.Session.{Session}

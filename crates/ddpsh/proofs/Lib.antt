@@ -11,6 +11,8 @@ pub mod CallLaws
 pub mod ListLaws
 pub mod LineOfLaws
 pub mod StageLaws
+pub mod ClockLaws
 pub mod OneOutput
+pub mod FixedStates
 pub mod TopLaws
 pub mod CompleteLaws

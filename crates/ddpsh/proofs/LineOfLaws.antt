@@ -1,5 +1,5 @@
 -- A line of a session, from what its item came to.
-use Rattle.std.proofs.Common.{◌≡◌, ◌≤◌, ◌<◌, ◌+◌, ◌-◌, ◌^◌, ◌||◌, ◌&&◌, min, ℕ, zero, suc, Bool, true, false, cond, not, nat_lt, List, [], ◌∷◌, ◌++◌, length, drop, take, Option, Some, None, Result, Ok, Err, refl, sym, ◌∙◌, ap, subst, arith, append-nil}
+use Rattle.std.proofs.Common.{◌≡◌, ◌<◌, ◌+◌, ◌-◌, ◌^◌, ◌||◌, ◌&&◌, min, ℕ, zero, suc, Bool, true, false, cond, nat_lt, List, [], ◌++◌, length, drop, take, Option, Some, None, Result, Ok, Err, refl, sym, ◌∙◌, ap, subst, arith, append-nil}
 use Rattle.std.proofs.lemmas.Bool.{false≢true}
 use Rattle.vdisk.specs.declared.disk.Disk.{Ghosts}
 use Rattle.plain_volume.specs.declared.call.Call.{Call}
@@ -10,19 +10,16 @@ use Rattle.plain_volume.specs.declared.call.Fault.TheVariants as fault
 use Rattle.cmdlet_line.specs.declared.lines.Line.{Line}
 use Rattle.cmdlet_line.specs.declared.lines.LineFault.{LineFault}
 use Rattle.cmdlet_line.specs.Lines.{Ask, Refusal, Gives, ask_of, Silent, Create, Write, Read, Fill, Length, Rename, Delete, Digest, Stat, Listing, Flush, Exit}
-use Rattle.ddpsh.specs.States.{State, reply_in}
-use Rattle.ddpsh.specs.Script.{Item, Bad, Bare, Paid, Cut, Spoilt, item_of, with_payload, ends_well}
-use Rattle.ddpsh.specs.Answers.{Answer, Nothing, Accepted, Refused, Comes, Starts, said, said_fault, fault_text, text_of, is_accepted, is_refused, is_durable, is_exit}
+use Rattle.ddpsh.specs.States.{State}
+use Rattle.ddpsh.specs.Script.{Item, Paid, Cut, Spoilt, item_of, ends_well}
+use Rattle.ddpsh.specs.Answers.{Answer, Nothing, Accepted, Refused, Comes, Starts, fault_text, is_accepted, is_durable, is_exit}
 use Rattle.ddpsh.specs.Runs.{Made, acknowledges}
-use Rattle.ddpsh.specs.Saying.{kind_of, exit_kind, plain_kind, is_ok, asks_flush, is_flushed, ended_by}
+use Rattle.ddpsh.specs.Saying.{exit_kind, is_ok, asks_flush, is_flushed, ended_by}
 use Rattle.ddpsh.specs.Told.{IsPut, IsPutInPart}
-use Rattle.volume_core.specs.Volumes.{disk_of, view_now, stopped, IsKept}
+use Rattle.volume_core.specs.Volumes.{disk_of}
 use Rattle.ddpsh.specs.Crashes.{Carries}
-use Rattle.ddpsh.specs.Served.{asked_as, volume_state, IsServed, IsBroken, ComesTo}
-use Rattle.ddpsh.specs.Sessions.{state_of, ack_now, acks_if, counted_on, let_go, acknowledge, is_last, LineEnds, EndEnds, Acks, HasCome, DoesLine, DoesEnd}
-use Rattle.ddpsh.specs.Ends.{over_end, stop_end}
-use Rattle.vdisk.specs.declared.disk.Failed.{Failed}
-use Rattle.ddpsh.specs.Clocks.{IsRead}
+use Rattle.ddpsh.specs.Served.{asked_as, volume_state, IsDurable}
+use Rattle.ddpsh.specs.Sessions.{state_of, ack_now, acks_if, counted_on, let_go, acknowledge, LineEnds, EndEnds, HasCome, DoesLine, DoesEnd}
 use Rattle.ddpsh.specs.Acks.{ack_list}
 use Rattle.ddpsh.specs.Steps.{acks_when, session_end, EndsOver, DoesStep, DoesEndStep}
 use Rattle.ddpsh.specs.declared.acks.Ack.{Ack}
@@ -35,10 +32,10 @@ use Rattle.volume_core.specs.declared.volume.Volume.{Volume as Engine}
 use Rattle.ddpsh.specs.declared.session.Session.{Session}
 use Rattle.ddpsh.proofs.RunLaws.{made_none}
 use Rattle.ddpsh.proofs.CrashLaws.{carries_none, carries_call}
-use Rattle.ddpsh.proofs.CallLaws.{starts_none, Flushed, flush_view, flush_made, flush_kept, flush_says}
+use Rattle.ddpsh.proofs.CallLaws.{starts_none, Flushed, flush_made, flush_kept, flush_says}
 
 -- a paid line is no `flush` and no `exit`
-paid_fact : (P : Item → Bool) (less : Bool) (well : Bool) (ask : Ask) (payload : List ℕ) → P Cut ≡ false → P Spoilt ≡ false → P (Paid ask payload) ≡ false
+pub paid_fact : (P : Item → Bool) (less : Bool) (well : Bool) (ask : Ask) (payload : List ℕ) → P Cut ≡ false → P Spoilt ≡ false → P (Paid ask payload) ≡ false
     → P (cond less Cut (cond well (Paid ask payload) Spoilt)) ≡ false
 paid_fact P true well ask payload x y z = x
 paid_fact P false true ask payload x y z = z
@@ -89,7 +86,7 @@ stop_ends item v w calls held stop.Device other starts = (starts, refl, refl)
 stop_ends item v w calls held stop.Memory other starts = (starts, refl, refl)
 stop_ends item v w calls held stop.Sink other starts = absurd (other refl)
 
-gives_as : (read : Result Line LineFault) (given : Result Ask Refusal) → Gives ask_of read given → given ≡ asked_as read
+pub gives_as : (read : Result Line LineFault) (given : Result Ask Refusal) → Gives ask_of read given → given ≡ asked_as read
 gives_as (Ok line) given h = h
 gives_as (Err fault) given h = h
 
@@ -101,11 +98,6 @@ ends_over (Ok answered.Exit) v durable ends = absurd ends
 ends_over (Err stop.Device) v durable ends = ends
 ends_over (Err stop.Memory) v durable ends = ends
 ends_over (Err stop.Sink) v durable ends = absurd ends
-
--- a clock that was read for what the code read from a line, was read for the line
-pub read_as : (read : Result Line LineFault) (given : Result Ask Refusal) (before now : Option (List ℕ)) → Gives ask_of read given
-    → (second : Result ℕ Failed) × IsRead (asked_as read) before now second → (second : Result ℕ Failed) × IsRead given before now second
-read_as read given before now gives is = (is.0, subst (λ (a : Result Ask Refusal). IsRead a before now is.0) (sym (gives_as read given gives)) is.1)
 
 module _ {D : Type 0} {d : Ghosts D} where
   go_volume : (k : Answered) (s : Session D d) → (let_go k s).volume ≡ s.volume
@@ -159,7 +151,7 @@ module _ {D : Type 0} {d : Ghosts D} where
     counted = come.1 ∙ ap (counted_on old.calls) come.3.count;
     few = omega (arith, come.2, come.3.count);
     carries = come.3.carries;
-    acks = record { ack = none; kept = λ h. absurd (false≢true h) };
+    acks = record { ack = none; durable = λ h. absurd (false≢true h) };
   }
 
   module _ (item : Item) (old mid new : Session D d) (before held : Option (List ℕ)) (text : List ℕ) (kind : Answered) (come : HasCome item old mid (Ok kind) text)
@@ -176,8 +168,8 @@ module _ {D : Type 0} {d : Ghosts D} where
     came_carries : Carries old.volume new.volume come.3.calls
     came_carries = subst (λ (v : Engine D d). Carries old.volume v come.3.calls) (sym volume) come.3.carries
 
-    came_kept : acknowledges item come.3.answer ≡ true → IsKept new.volume (view_now new.volume)
-    came_kept h = subst (λ (v : Engine D d). IsKept v (view_now v)) (sym volume) (come.3.kept h)
+    came_kept : acknowledges item come.3.answer ≡ true → IsDurable new.volume
+    came_kept h = subst (λ (v : Engine D d). IsDurable v) (sym volume) (come.3.durable h)
 
     -- the answer is written whole
     pub line_done : new.ack ≡ acks_if (acknowledges item come.3.answer) (ack_now mid) → IsPut before text held → DoesLine item old new before held (Ok kind)
@@ -189,7 +181,7 @@ module _ {D : Type 0} {d : Ghosts D} where
       counted = came_counted;
       few = omega (arith, come.2, come.3.count);
       carries = came_carries;
-      acks = record { ack = ack ∙ ap (acks_if (acknowledges item come.3.answer)) (sym (ack_same new mid volume calls)); kept = came_kept };
+      acks = record { ack = ack ∙ ap (acks_if (acknowledges item come.3.answer)) (sym (ack_same new mid volume calls)); durable = came_kept };
     }
 
     -- the sink failed
@@ -205,7 +197,7 @@ module _ {D : Type 0} {d : Ghosts D} where
       carries = came_carries;
       acks = record {
         ack = ack ∙ ap (acks_if (is_exit item && is_accepted come.3.answer)) (sym (ack_same new mid volume calls));
-        kept = λ h. came_kept (and_both (is_exit item) (is_durable item) (is_accepted come.3.answer) durable h);
+        durable = λ h. came_kept (and_both (is_exit item) (is_durable item) (is_accepted come.3.answer) durable h);
       };
     }
 
@@ -234,14 +226,14 @@ module _ {D : Type 0} {d : Ghosts D} where
   -- the end of a script
 
   end_base : (old new : Session D d) (durable : Bool) (r : Result (Unit {0}) Fault) (result : Result Answered SessionFault) → Flushed old.volume new.volume r → new.calls ≡ old.calls
-      → new.ack ≡ acks_if durable (ack_now new) → EndEnds result (state_of old) durable → (durable ≡ true → IsKept new.volume (view_now new.volume)) → DoesEnd old new result
+      → new.ack ≡ acks_if durable (ack_now new) → EndEnds result (state_of old) durable → (durable ≡ true → IsDurable new.volume) → DoesEnd old new result
   end_base old new durable r result did calls ack ends kept = record {
     durable = durable;
     made = flush_made old.volume new.volume r did;
     ends = ends;
     counted = calls;
     carries = carries_call call.Flush old.volume new.volume [] did.endures did.adds (omega arith);
-    acks = record { ack = ack; kept = kept };
+    acks = record { ack = ack; durable = kept };
   }
 
   pub end_ok : (old new : Session D d) → Flushed old.volume new.volume (Ok tt) → new.calls ≡ old.calls → new.ack ≡ Some (ack_now new) → DoesEnd old new (Ok answered.Ok)
@@ -299,7 +291,7 @@ module _ {D : Type 0} {d : Ghosts D} where
     few = does.few;
     carries = does.carries;
     acks_are = are ∙ ap (λ x. acks ++ x) (ap ack_list does.acks.ack ∙ listed does.durable (ack_now new));
-    kept = does.acks.kept;
+    stands = does.acks.durable;
   }
 
   pub step_none : (item : Item) (v : Session D d) (held : Option (List ℕ)) (acks later : List Ack) → later ≡ acks → DoesStep item v v held held (Err stop.Memory) acks later
@@ -312,7 +304,7 @@ module _ {D : Type 0} {d : Ghosts D} where
     few = omega arith;
     carries = carries_none v.volume;
     acks_are = are ∙ sym (append-nil acks);
-    kept = λ h. absurd (false≢true h);
+    stands = λ h. absurd (false≢true h);
   }
 
   pub step_end : (old new : Session D d) (result : Result Answered SessionFault) (acks later : List Ack) → DoesEnd old new result → later ≡ acks ++ ack_list new.ack
@@ -324,7 +316,7 @@ module _ {D : Type 0} {d : Ghosts D} where
     counted = does.counted;
     carries = does.carries;
     acks_are = are ∙ ap (λ x. acks ++ x) (ap ack_list does.acks.ack ∙ listed does.durable (ack_now new));
-    kept = does.acks.kept;
+    stands = does.acks.durable;
   }
 
   pub step_end_none : (v : Session D d) (end : End) (acks later : List Ack) → EndsOver end (state_of v) false → later ≡ acks → DoesEndStep v v end acks later
@@ -335,7 +327,7 @@ module _ {D : Type 0} {d : Ghosts D} where
     counted = refl;
     carries = carries_none v.volume;
     acks_are = are ∙ sym (append-nil acks);
-    kept = λ h. absurd (false≢true h);
+    stands = λ h. absurd (false≢true h);
   }
 
   pub step_line_as : (item : Item) (old new : Session D d) (before held : Option (List ℕ)) (result : Result Answered SessionFault) (acks room later : List Ack) (ack : Option Ack)

@@ -1,5 +1,5 @@
 -- The files of a volume are listed one after the other.
-use Rattle.std.proofs.Common.{◌≡◌, ◌⊎◌, ◌<◌, ◌≤◌, ◌+◌, ◌*◌, ℕ, zero, suc, Bool, true, false, not, cond, ◌&&◌, T, IsTrue, List, [], ◌∷◌, ◌++◌, length, All, Option, Some, None, Result, Ok, Err, IfOk, OnOk, OnErr, IsErrOf, refl, sym, ◌∙◌, ap, subst, arith, inl, inr, ⊎_elim, append_assoc, append-nil, length-append}
+use Rattle.std.proofs.Common.{◌≡◌, ◌≤◌, ◌+◌, ◌*◌, ℕ, Bool, true, false, not, cond, ◌&&◌, T, List, [], ◌∷◌, ◌++◌, length, All, Option, Some, None, Result, Ok, Err, IfOk, refl, sym, ◌∙◌, ap, subst, arith, inl, inr, ⊎_elim, append_assoc, append-nil, length-append}
 use Rattle.std.proofs.lemmas.Bool.{false≢true}
 use Rattle.std.proofs.lemmas.List.Elements.{All-head, All-tail}
 use Rattle.std.specs.declared.cmp.Ordering.{Ordering}
@@ -7,9 +7,9 @@ use Rattle.std.specs.declared.cmp.Ordering.TheVariants.{Less, Equal, Greater}
 use Rattle.std.specs.Ordering.{is_eq, is_lt, ordering_reverse}
 use Rattle.std.specs.Cmp.{tied_itself}
 use Rattle.std.specs.Cmp.Lexicographic.{nat_list_cmp_total}
-use Rattle.std.specs.FinMap.Entries.{find, below_all, is_sorted}
+use Rattle.std.specs.FinMap.Entries.{below_all, is_sorted}
 use Rattle.plain_volume.specs.Volume.{Volume, Cell, name_cmp, cells_of, is_lawful, next_above, first_name, IsLawfulVolume}
-use Rattle.plain_volume.specs.Step.{plain, after, left_by, Step, Legal, replay, refuse_if, at_file, stat, next_name}
+use Rattle.plain_volume.specs.Step.{plain, after, Step, Legal, replay, refuse_if, at_file, stat, next_name}
 use Rattle.plain_volume.specs.Replies.{own_reply, IsOwnOrMemory}
 use Rattle.plain_volume.specs.declared.call.Call.{Call}
 use Rattle.plain_volume.specs.declared.call.Call.TheVariants as call
@@ -21,16 +21,16 @@ use Rattle.vdisk.specs.declared.disk.Disk.{Ghosts}
 use Rattle.cmdlet_line.specs.Lines.{Listing}
 use Rattle.ddpsh.specs.Listing.{listing, file_line, file_lines}
 use Rattle.volume_core.specs.Replies.{length_reply, name_reply}
-use Rattle.ddpsh.specs.States.{State}
 use Rattle.ddpsh.specs.Script.{Bare}
-use Rattle.ddpsh.specs.Answers.{Answer, Accepted, Lists, ListBegun, LacksMemory, number, text_of}
-use Rattle.ddpsh.specs.Runs.{Made}
+use Rattle.ddpsh.specs.Answers.{Accepted, LacksMemory, number, text_of}
+use Rattle.ddpsh.specs.Runs.{insides_after}
+use Rattle.volume_inside.specs.Inside.{Inside}
+use Rattle.volume_core.specs.Moves.{inside_after}
 use Rattle.ddpsh.specs.Saying.{IsSaid}
 use Rattle.volume_core.specs.Volumes.{view_now}
-use Rattle.ddpsh.specs.Served.{volume_state, IsServed, IsBroken, ComesTo}
+use Rattle.ddpsh.specs.Served.{volume_state, IsBroken, ComesTo}
 use Rattle.ddpsh.specs.declared.answers.Answered.{Answered}
 use Rattle.ddpsh.specs.declared.stops.SessionFault.{SessionFault}
-use Rattle.ddpsh.specs.declared.stops.SessionFault.TheVariants as stop
 use Rattle.volume_core.specs.declared.volume.Volume.{Volume as Engine}
 use Rattle.ddpsh.proofs.CrashLaws.{carries_idle}
 use Rattle.ddpsh.proofs.CallLaws.{stat_after}
@@ -41,6 +41,7 @@ use Rattle.ddpsh.proofs.CallLaws.{stat_after}
 pub record Looks (v : Volume) (pair : Call × Reply) : Type 0 where
   pub step : Step v pair.0 pair.1 v
   pub left : after v pair.0 pair.1 ≡ v
+  pub keeps : (i : Inside) → inside_after pair.0 pair.1 i ≡ i
 
 abbrev pub AllLook : Volume → List (Call × Reply) → Type 0
 AllLook v [] = Unit {0}
@@ -60,6 +61,12 @@ look_replay v (pair ∷ pairs) h =
     let one = h.0 in
     look_replay v pairs h.1 ∙ ap (λ (w : Volume). replay w pairs) (sym one.left)
 
+look_insides : (v : Volume) (pairs : List (Call × Reply)) (i : Inside) → AllLook v pairs → i ≡ insides_after pairs i
+look_insides v [] i h = refl
+look_insides v (pair ∷ pairs) i h =
+    let one = h.0 in
+    look_insides v pairs i h.1 ∙ ap (insides_after pairs) (sym (one.keeps i))
+
 look_more : (v : Volume) (first second : List (Call × Reply)) → AllLook v first → AllLook v second
     → AllLook v (first ++ second)
 look_more v [] second one two = two
@@ -68,14 +75,14 @@ look_more v (pair ∷ first) second one two = (one.0, look_more v first second o
 look_next : (v : Volume) (above found : Option (List ℕ)) → next_name above v ≡ found
     → Looks v (call.Next above, reply.Name found)
 look_next v above found is =
-    record { step = ap (λ (o : Option (List ℕ)). Ok (reply.Name o, v)) is; left = refl }
+    record { step = ap (λ (o : Option (List ℕ)). Ok (reply.Name o, v)) is; left = refl; keeps = λ i. refl }
 
 look_memory : (v : Volume) (above : Option (List ℕ)) → Looks v (call.Next above, reply.Refused fault.Memory)
-look_memory v above = record { step = (refl, inr tt); left = refl }
+look_memory v above = record { step = (refl, inr refl); left = refl; keeps = λ i. refl }
 
 look_stat : (v : Volume) (name : List ℕ) (size : ℕ) → plain v (call.Stat name) ≡ Ok (reply.Length size, v)
     → Looks v (call.Stat name, reply.Length size)
-look_stat v name size is = record { step = is; left = stat_after v name (reply.Length size) }
+look_stat v name size is = record { step = is; left = stat_after v name (reply.Length size); keeps = λ i. refl }
 
 -- ---- names in order
 
@@ -210,7 +217,7 @@ pub name_of : (v : Volume) (last found : Option (List ℕ)) (r : Result (Option 
     → IsOwnOrMemory v (call.Next last) (name_reply r) v → next_name last v ≡ found
 name_of v last found r is own = ⊎_elim
     (λ same. let e : reply.Name found ≡ reply.Name (next_name last v) = sym (ap name_reply is) ∙ same in (let h : next_name last v ≡ found = cc in h))
-    (λ memory. let e : reply.Name found ≡ reply.Refused fault.Memory = sym (ap name_reply is) ∙ memory in absurd (let no : ⊥ = cc in no))
+    (λ memory. let e : reply.Name found ≡ reply.Refused fault.Memory = sym (ap name_reply is) ∙ memory.0 in absurd (let no : ⊥ = cc in no))
     own.own
 
 -- the length that is given is that of the file
@@ -277,8 +284,8 @@ module _ (v : Volume) (lawful : IsLawfulVolume v) (count : ℕ) (last : Option (
 
 lacks_next : (last : Option (List ℕ)) (rest : Volume)
     → LacksMemory (listing last rest) ((call.Next last, reply.Refused fault.Memory) ∷ [])
-lacks_next last [] = refl
-lacks_next last (f ∷ rest) = refl
+lacks_next last [] = (refl, refl)
+lacks_next last (f ∷ rest) = (refl, refl)
 
 module _ {D : Type 0} {d : Ghosts D} (v : Engine D d) (count : ℕ) (last : Option (List ℕ)) (lines : List ℕ)
     (so : Listed (view_now v) count last lines) where
@@ -294,7 +301,7 @@ module _ {D : Type 0} {d : Ghosts D} (v : Engine D d) (count : ℕ) (last : Opti
       calls_are = sym (append-nil so.done);
       wanted = inl refl;
     };
-    legal = record { legal = look_legal (view_now v) so.done so.look; now = look_replay (view_now v) so.done so.look };
+    legal = record { legal = look_legal (view_now v) so.done so.look; now = look_replay (view_now v) so.done so.look; inside = look_insides (view_now v) so.done (volume_state v).inside so.look; clusters = refl };
     count = is ∙ sym so.made;
     carries = carries_idle v so.done;
   }
@@ -317,6 +324,8 @@ module _ {D : Type 0} {d : Ghosts D} (v : Engine D d) (count : ℕ) (last : Opti
         legal = record {
           legal = look_legal (view_now v) (so.done ++ wanted) look;
           now = look_replay (view_now v) (so.done ++ wanted) look;
+          inside = look_insides (view_now v) (so.done ++ wanted) (volume_state v).inside look;
+          clusters = refl;
         };
         count = omega (arith, is, so.made, length-append so.done wanted);
         carries = carries_idle v (so.done ++ wanted);
@@ -349,10 +358,12 @@ module _ {D : Type 0} {d : Ghosts D} (v : Engine D d) (count : ℕ) (last : Opti
     legal = record {
       legal = look_legal (view_now v) (listing None (view_now v)) (all_look none);
       now = look_replay (view_now v) (listing None (view_now v)) (all_look none);
+      inside = look_insides (view_now v) (listing None (view_now v)) (volume_state v).inside (all_look none);
+      clusters = refl;
     };
     count = omega (arith, is, so.made, ap length (all_called none), length-append so.done ((call.Next last, reply.Name None) ∷ []));
     carries = carries_idle v (listing None (view_now v));
-    kept = λ h. absurd (false≢true h);
+    durable = λ h. absurd (false≢true h);
     text_is = said.text_is ∙ ap (λ x. text_of (Accepted x)) (all_said none);
     kind_is = said.kind_is;
   }
@@ -369,6 +380,8 @@ module _ {D : Type 0} {d : Ghosts D} (v : Engine D d) (count : ℕ) (last : Opti
     legal = record {
       legal = look_legal (view_now v) (listing None (view_now v)) (all_look none);
       now = look_replay (view_now v) (listing None (view_now v)) (all_look none);
+      inside = look_insides (view_now v) (listing None (view_now v)) (volume_state v).inside (all_look none);
+      clusters = refl;
     };
     count = omega (arith, is, so.made, ap length (all_called none), length-append so.done ((call.Next last, reply.Name None) ∷ []));
     carries = carries_idle v (listing None (view_now v));

@@ -10,31 +10,31 @@ use Rattle.ddpsh.specs.Answers.{Answer, Nothing, Refused, refusal_text, text_of,
 use Rattle.ddpsh.specs.Runs.{Entry, items_of, output_of, AreAnswered}
 use Rattle.ddpsh.specs.Laws.{ItemsHaveOneAnswer, ScriptsHaveOneOutput, WantAlike}
 
--- the same calls, answer and volume
+-- the same calls, answer and inside
 abbrev Same : List (Call × Reply) → List (Call × Reply) → Answer → Answer → State → State → Type 0
-Same calls others answer other after later = (calls ≡ others) × (answer ≡ other) × (after.volume ≡ later.volume)
+Same calls others answer other after later = (calls ≡ others) × (answer ≡ other) × (after.inside ≡ later.inside) × (after.clusters ≡ later.clusters)
 
 one_call_same : (c : Call) (before : State) (calls others : List (Call × Reply)) (answer other : Answer) (after later : State)
     → OneCall c before calls answer after → OneCall c before others other later → Same calls others answer other after later
 one_call_same c before calls others answer other after later x y =
     let says : Some answer ≡ Some other = sym x.says ∙ y.says in
-    (x.calls_are ∙ sym y.calls_are, cc, x.leaves ∙ sym y.leaves)
+    (x.calls_are ∙ sym y.calls_are, cc, x.moves.inside ∙ sym y.moves.inside, x.moves.clusters ∙ sym y.moves.clusters)
 
 no_call_same : (says : State → Answer) (before : State) (calls others : List (Call × Reply)) (answer other : Answer) (after later : State)
     → NoCall says before calls answer after → NoCall says before others other later → Same calls others answer other after later
 no_call_same says before calls others answer other after later x y =
-    (x.calls_are ∙ sym y.calls_are, x.says_so ∙ sym y.says_so, ap (λ s. s.volume) x.leaves ∙ sym (ap (λ s. s.volume) y.leaves))
+    (x.calls_are ∙ sym y.calls_are, x.says_so ∙ sym y.says_so, ap (λ s. s.inside) (x.leaves ∙ sym y.leaves), ap (λ s. s.clusters) (x.leaves ∙ sym y.leaves))
 
 unmounts_same : (before : State) (calls others : List (Call × Reply)) (answer other : Answer) (after later : State)
     → Unmounts before calls answer after → Unmounts before others other later → Same calls others answer other after later
 unmounts_same before calls others answer other after later x y =
     let says : Some answer ≡ Some other = sym x.says ∙ y.says in
-    (x.calls_are ∙ sym y.calls_are, cc, x.leaves ∙ sym y.leaves)
+    (x.calls_are ∙ sym y.calls_are, cc, x.moves.inside ∙ sym y.moves.inside, x.moves.clusters ∙ sym y.moves.clusters)
 
 lists_same : (before : State) (calls others : List (Call × Reply)) (answer other : Answer) (after later : State)
     → Lists before calls answer after → Lists before others other later → Same calls others answer other after later
 lists_same before calls others answer other after later x y =
-    (x.calls_are ∙ sym y.calls_are, x.says ∙ sym y.says, x.leaves ∙ sym y.leaves)
+    (x.calls_are ∙ sym y.calls_are, x.says ∙ sym y.says, ap (λ s. s.inside) (x.leaves ∙ sym y.leaves), ap (λ s. s.clusters) (x.leaves ∙ sym y.leaves))
 
 serves_same : (ask : Ask) (payload : List ℕ) (before : State) (calls others : List (Call × Reply)) (answer other : Answer) (after later : State)
     → Serves ask payload before calls answer after → Serves ask payload before others other later → Same calls others answer other after later
@@ -59,8 +59,8 @@ item_same (Paid ask payload) = serves_same ask payload
 item_same Cut = no_call_same (λ before. Refused (codes " Cut"))
 item_same Spoilt = no_call_same (λ before. Refused (codes " PayloadEnd"))
 
-state_same : (a b : State) → a.volume ≡ b.volume → a.wants ≡ b.wants → a ≡ b
-state_same a b volume wants = λ i. record { volume = volume i; wants = wants i }
+state_same : (a b : State) → a.inside ≡ b.inside → a.clusters ≡ b.clusters → a.epoch ≡ b.epoch → a.wears ≡ b.wears → a.has_room ≡ b.has_room → a ≡ b
+state_same a b inside clusters epoch wears room = λ i. record { clusters = clusters i; inside = inside i; epoch = epoch i; wears = wears i; has_room = room i }
 
 output_same : (es others : List Entry) (v : State) (script : List ℕ) → BeginsWith (items_of es) script [] → BeginsWith (items_of others) script []
     → AreAnswered v es → AreAnswered v others → WantAlike es others → output_of es ≡ output_of others
@@ -71,9 +71,9 @@ output_same (e ∷ es) (f ∷ others) v script h k a b alike =
     let item : f.item ≡ e.item = k.1 ∙ sym h.1 in
     let first : Comes e.item v f.calls f.answer f.after = subst (λ (i : Item). Comes i v f.calls f.answer f.after) item b.0 in
     let same : Same e.calls f.calls e.answer f.answer e.after f.after = item_same e.item v e.calls f.calls e.answer f.answer e.after f.after a.0 first in
-    let after : e.after ≡ f.after = state_same e.after f.after same.2 alike.0 in
+    let after : e.after ≡ f.after = state_same e.after f.after same.2 same.3 alike.0 alike.1 alike.2 in
     let rest : AreAnswered e.after others = subst (λ (s : State). AreAnswered s others) (sym after) b.1 in
-    ap (λ x. text_of x ++ output_of es) same.1 ∙ ap (λ x. text_of f.answer ++ x) (output_same es others e.after (behind_item script) h.2 k.2 a.1 rest alike.1)
+    ap (λ x. text_of x ++ output_of es) same.1 ∙ ap (λ x. text_of f.answer ++ x) (output_same es others e.after (behind_item script) h.2 k.2 a.1 rest alike.3)
 
 pub script_same : ScriptsHaveOneOutput
 script_same opening script es others now later x y alike = output_same es others opening script x.items y.items x.answers y.answers alike

@@ -5,10 +5,13 @@ use Rattle.plain_volume.specs.Step.{Legal, replay, after}
 use Rattle.plain_volume.specs.declared.call.Call.{Call}
 use Rattle.plain_volume.specs.declared.call.Reply.{Reply}
 use Rattle.std.specs.List.{list_any}
+use Rattle.volume_inside.specs.Inside.{Inside}
+use Rattle.volume_core.specs.States.{volume_in}
+use Rattle.volume_core.specs.Moves.{inside_after}
 use Rattle.ddpsh.specs.States.{State}
 use Rattle.ddpsh.specs.Script.{first_item, behind_item, BeginsWith}
 use Rattle.ddpsh.specs.Answers.{Answer, text_of, is_refused, is_answered, Comes}
-use Rattle.ddpsh.specs.Runs.{Entry, items_of, calls_of, output_of, AreAnswered, left_by, some_refused, answered_lines, acknowledges, acknowledged, one_if, lets_go, StayOpen, Made, Served}
+use Rattle.ddpsh.specs.Runs.{Entry, items_of, calls_of, output_of, AreAnswered, left_by, some_refused, answered_lines, acknowledges, acknowledged, one_if, lets_go, StayOpen, insides_after, Made, Served}
 
 pub replays : (v : Volume) (first second : List (Call × Reply)) → replay v (first ++ second) ≡ replay (replay v first) second
 replays v [] second = refl
@@ -18,13 +21,19 @@ legal_then : (v : Volume) (first second : List (Call × Reply)) → Legal v firs
 legal_then v [] second first_legal rest = rest
 legal_then v (pair ∷ first) second first_legal rest = (first_legal.0, legal_then (after v pair.0 pair.1) first second first_legal.1 rest)
 
+insides_split : (i : Inside) (first second : List (Call × Reply)) → insides_after (first ++ second) i ≡ insides_after second (insides_after first i)
+insides_split i [] second = refl
+insides_split i (pair ∷ first) second = insides_split (inside_after pair.0 pair.1 i) first second
+
 pub made_none : (v : State) → Made v v []
-made_none v = record { legal = tt; now = refl }
+made_none v = record { legal = tt; now = refl; inside = refl; clusters = refl }
 
 pub made_then : (u v w : State) (first second : List (Call × Reply)) → Made u v first → Made v w second → Made u w (first ++ second)
 made_then u v w first second one two = record {
-  legal = legal_then u.volume first second one.legal (subst (λ (x : Volume). Legal x second) one.now two.legal);
-  now = two.now ∙ (ap (λ x. replay x second) one.now ∙ sym (replays u.volume first second));
+  legal = legal_then (volume_in u) first second one.legal (subst (λ (x : Volume). Legal x second) one.now two.legal);
+  now = two.now ∙ (ap (λ x. replay x second) one.now ∙ sym (replays (volume_in u) first second));
+  inside = two.inside ∙ (ap (insides_after second) one.inside ∙ sym (insides_split u.inside first second));
+  clusters = two.clusters ∙ one.clusters;
 }
 
 pub calls_more : (es : List Entry) (e : Entry) → calls_of (es ++ e ∷ []) ≡ calls_of es ++ e.calls

@@ -1,25 +1,25 @@
 -- The loop over items.
-use Rattle.std.proofs.Common.{◌≡◌, ◌⊎◌, inl, inr, ◌≤◌, ◌<◌, ◌+◌, ◌-◌, ◌*◌, ◌^◌, ◌||◌, ◌&&◌, min, ℕ, zero, suc, Bool, true, false, cond, List, [], ◌∷◌, ◌++◌, length, map, Option, Some, Result, Ok, Err, refl, sym, ◌∙◌, ap, subst, arith, append-nil, append_assoc, length-append, Contains, take}
+use Rattle.std.proofs.Common.{◌≡◌, ◌⊎◌, inl, inr, ◌≤◌, ◌<◌, ◌+◌, ◌*◌, ◌^◌, ◌||◌, ◌&&◌, ℕ, zero, suc, Bool, true, false, cond, List, [], ◌∷◌, ◌++◌, length, map, Option, Some, Result, Ok, Err, refl, sym, ◌∙◌, ap, subst, arith, append-nil, length-append}
 use Rattle.std.proofs.lemmas.Bool.{false≢true}
 use Rattle.std.proofs.lemmas.List.{map-append}
-use Rattle.vdisk.specs.Disk.{DiskState}
 use Rattle.vdisk.specs.declared.disk.Disk.{Ghosts}
-use Rattle.plain_volume.specs.Volume.{Volume}
 use Rattle.plain_volume.specs.Step.{replay}
 use Rattle.plain_volume.specs.declared.call.Call.{Call}
 use Rattle.plain_volume.specs.declared.call.Reply.{Reply}
+use Rattle.cmdlet_line.specs.Lines.{Exit}
 use Rattle.ddpsh.specs.States.{State}
 use Rattle.ddpsh.specs.Script.{Item, Bare, first_item, behind_item}
-use Rattle.ddpsh.specs.Answers.{Answer, Nothing, Accepted, Refused, text_of, is_refused, is_answered, is_accepted, is_exit, Comes, Starts}
-use Rattle.ddpsh.specs.Runs.{Entry, Made, Served, StayOpen, lets_go, calls_of, output_of, some_refused, answered_lines, acknowledges, acknowledged, one_if}
-use Rattle.ddpsh.specs.Ends.{Last, Ends, AnsweredSo, RunOf, StaysOpenUntil, stop_end, fault_end, kind_refused, kind_counted}
-use Rattle.ddpsh.specs.Saying.{kind_of, exit_kind, plain_kind}
+use Rattle.ddpsh.specs.Answers.{Answer, Nothing, Accepted, Refused, text_of, is_refused, is_answered, is_accepted, is_exit, Comes}
+use Rattle.ddpsh.specs.Runs.{Entry, Made, lets_go, calls_of, output_of, some_refused, acknowledges, acknowledged, one_if}
+use Rattle.ddpsh.specs.Ends.{Ends, AnsweredSo, HasLetGo, StaysOpenUntil, stop_end, fault_end, kind_refused, kind_counted}
+use Rattle.ddpsh.specs.Saying.{kind_of, exit_kind}
 use Rattle.ddpsh.specs.Input.{ahead, taken, IsLeft}
 use Rattle.ddpsh.specs.Reading.{IsItem, is_some_byte}
 use Rattle.ddpsh.specs.Told.{IsPut}
 use Rattle.volume_core.specs.Volumes.{disk_of, view_now, stopped, IsKept}
 use Rattle.ddpsh.specs.Bounds.{IsFresh, WantsAreSpent}
-use Rattle.ddpsh.specs.Crashes.{LastsFrom, Carries, Mounts, MountsAfter}
+use Rattle.ddpsh.specs.Served.{IsDurable, IsStored}
+use Rattle.ddpsh.specs.Crashes.{LastsFrom, Carries}
 use Rattle.ddpsh.specs.Sessions.{state_of, ack_now, counted_on, is_last, LineEnds}
 use Rattle.ddpsh.specs.Steps.{acks_when, EndsOver, DoesStep, DoesEndStep, Spending, Keeping, Stage, SessionRun}
 use Rattle.ddpsh.specs.declared.acks.Ack.{Ack}
@@ -55,7 +55,7 @@ kind_is_refused false Nothing = refl
 kind_is_refused false (Accepted more) = refl
 kind_is_refused false (Refused more) = refl
 
-kind_counts : (exits : Bool) (answer : Answer) → kind_counted (exit_kind exits answer) ≡ cond (is_answered answer) 1 0
+pub kind_counts : (exits : Bool) (answer : Answer) → kind_counted (exit_kind exits answer) ≡ cond (is_answered answer) 1 0
 kind_counts true Nothing = refl
 kind_counts true (Accepted more) = refl
 kind_counts true (Refused more) = refl
@@ -102,34 +102,59 @@ entry_of item calls answer w = record { item = item; calls = calls; answer = ans
 pub left_start : (input : Input) (source : Option (List ℕ)) (s : List ℕ) → ahead input ≡ [] → input.came ≡ 0 → source ≡ Some s → IsLeft input source (length s) s
 left_start input source s none came told = record { rest = s; told = told; whole = sym (ap (λ x. x ++ s) none); counted = omega (arith, came) }
 
+-- an `exit` that let the volume go acknowledges
+exit_acknowledges : (item : Item) (answer : Answer) → (is_exit item && is_accepted answer) ≡ true → acknowledges item answer ≡ true
+exit_acknowledges (Bare Exit) answer h = h
+exit_acknowledges other answer h = absurd (false≢true h)
+
 module _ {D : Type 0} {d : Ghosts D} where
+  stored_if : (w : Session D d) (durable : Bool) (n : ℕ) → (durable ≡ true → IsDurable w.volume) → (one_if durable n ≡ [] → ⊥) → IsStored w.volume
+  stored_if w true n stands h = (stands refl).stored
+  stored_if w false n stands h = absurd (h refl)
+
+  stop_stored : (f : SessionFault) (w : Session D d) (durable : Bool) (n : ℕ) → (durable ≡ true → IsDurable w.volume) → HasLetGo (stop_end f) (one_if durable n) → IsStored w.volume
+  stop_stored stop.Device w durable n stands h = absurd h
+  stop_stored stop.Memory w durable n stands h = absurd h
+  stop_stored stop.Sink w durable n stands h = stored_if w durable n stands h
+
+  over_stored : (end : End) (w : Session D d) (durable : Bool) (n : ℕ) (v : State) → (durable ≡ true → IsDurable w.volume) → EndsOver end v durable → HasLetGo end (one_if durable n) → IsStored w.volume
+  over_stored ends.Over w durable n v stands ends h = (stands ends.3).stored
+  over_stored ends.Worn w durable n v stands ends h = absurd h
+  over_stored ends.Exit w durable n v stands ends h = absurd ends
+  over_stored ends.Device w durable n v stands ends h = absurd h
+  over_stored ends.Memory w durable n v stands ends h = absurd h
+  over_stored ends.Sink w durable n v stands ends h = absurd ends
+  over_stored ends.Source w durable n v stands ends h = absurd h
+  over_stored ends.TooLong w durable n v stands ends h = absurd h
+  over_stored (ends.Refused fault) w durable n v stands ends h = absurd h
+
   -- what a line, or the end of a script, adds to what is told of crashes
   module _ (first old new : Session D d) (calls more : List (Call × Reply)) (acks later : List Ack) (durable : Bool)
       (so : Made (state_of first) (state_of old) calls) (made : Made (state_of old) (state_of new) more) (carries : Carries old.volume new.volume more)
-      (count : new.calls ≡ length (calls ++ more)) (kept : durable ≡ true → IsKept new.volume (view_now new.volume)) (are : later ≡ acks ++ acks_when durable (ack_now new)) where
+      (count : new.calls ≡ length (calls ++ more)) (stands : durable ≡ true → IsDurable new.volume) (are : later ≡ acks ++ acks_when durable (ack_now new)) where
     now_is : view_now new.volume ≡ replay (view_now first.volume) (calls ++ more)
     now_is = (made_then (state_of first) (state_of old) (state_of new) calls more so made).now
 
-    lasts_when : (b : Bool) → (b ≡ true → IsKept new.volume (view_now new.volume)) → LastsFrom (view_now first.volume) (disk_of first.volume) (disk_of new.volume) (calls ++ more) acks
+    lasts_when : (b : Bool) → (b ≡ true → IsDurable new.volume) → LastsFrom (view_now first.volume) (disk_of first.volume) (disk_of new.volume) (calls ++ more) acks
         → LastsFrom (view_now first.volume) (disk_of first.volume) (disk_of new.volume) (calls ++ more) (acks ++ acks_when b (ack_now new))
-    lasts_when true keeps lasts = lasts_acked (view_now first.volume) (disk_of first.volume) new (calls ++ more) acks now_is count (keeps refl) lasts
+    lasts_when true keeps lasts = lasts_acked (view_now first.volume) (disk_of first.volume) new (calls ++ more) acks now_is count (keeps refl).kept lasts
     lasts_when false keeps lasts = subst (λ (x : List Ack). LastsFrom (view_now first.volume) (disk_of first.volume) (disk_of new.volume) (calls ++ more) x) (sym (append-nil acks)) lasts
 
-    keeping_when : (b : Bool) → (b ≡ true → IsKept new.volume (view_now new.volume)) → Keeping (view_now first.volume) new (calls ++ more) acks
+    keeping_when : (b : Bool) → (b ≡ true → IsDurable new.volume) → Keeping (view_now first.volume) new (calls ++ more) acks
         → Keeping (view_now first.volume) new (calls ++ more) (acks ++ acks_when b (ack_now new))
-    keeping_when true keeps keeping = keeping_acked (view_now first.volume) (disk_of first.volume) new (calls ++ more) acks now_is count (keeps refl) keeping
+    keeping_when true keeps keeping = keeping_acked (view_now first.volume) (disk_of first.volume) new (calls ++ more) acks now_is count (keeps refl).kept keeping
     keeping_when false keeps keeping = subst (λ (x : List Ack). Keeping (view_now first.volume) new (calls ++ more) x) (sym (append-nil acks)) keeping
 
     pub step_lasts : LastsFrom (view_now first.volume) (disk_of first.volume) (disk_of old.volume) calls acks → Keeping (view_now first.volume) old calls acks
         → LastsFrom (view_now first.volume) (disk_of first.volume) (disk_of new.volume) (calls ++ more) later
     step_lasts lasts keeping =
         subst (λ (x : List Ack). LastsFrom (view_now first.volume) (disk_of first.volume) (disk_of new.volume) (calls ++ more) x) (sym are)
-        (lasts_when durable kept (lasts_more (view_now first.volume) (disk_of first.volume) old new calls more acks so.now carries lasts keeping))
+        (lasts_when durable stands (lasts_more (view_now first.volume) (disk_of first.volume) old new calls more acks so.now carries lasts keeping))
 
     pub step_keeping : stopped new.volume ≡ false → Keeping (view_now first.volume) old calls acks → Keeping (view_now first.volume) new (calls ++ more) later
     step_keeping runs keeping =
         subst (λ (x : List Ack). Keeping (view_now first.volume) new (calls ++ more) x) (sym are)
-        (keeping_when durable kept (keeping_more (view_now first.volume) (disk_of first.volume) old new calls more acks so.now carries runs keeping))
+        (keeping_when durable stands (keeping_more (view_now first.volume) (disk_of first.volume) old new calls more acks so.now carries runs keeping))
 
   pub stage_start : (v : Session D d) (s : List ℕ) (input : Input) (source before : Option (List ℕ)) → ahead input ≡ [] → input.came ≡ 0 → source ≡ Some s → v.calls ≡ 0
       → IsKept v.volume (view_now v.volume) → WantsAreSpent v.volume → Stage v v s input source before before false 0 []
@@ -184,13 +209,13 @@ module _ {D : Type 0} {d : Ghosts D} where
       goes_so b h = sym (kind_goes (is_exit (first_item so.rest)) answer) ∙ (sym (ap is_last kind) ∙ h)
 
     lasts_so : (calls : List (Call × Reply)) (durable : Bool) → Made (state_of now) (state_of w) calls → Carries now.volume w.volume calls → w.calls ≡ length (calls_of so.entries) + length calls
-        → (durable ≡ true → IsKept w.volume (view_now w.volume)) → more ≡ acks ++ acks_when durable (ack_now w)
+        → (durable ≡ true → IsDurable w.volume) → more ≡ acks ++ acks_when durable (ack_now w)
         → LastsFrom (view_now first.volume) (disk_of first.volume) (disk_of w.volume) (calls_of so.entries ++ calls) more
     lasts_so calls durable made carries count kept are =
         step_lasts first now w (calls_of so.entries) calls acks more durable so.so.served.made made carries (count_joined calls count) kept are so.lasts so.keeping
 
     keeping_so : (calls : List (Call × Reply)) (durable : Bool) → Made (state_of now) (state_of w) calls → Carries now.volume w.volume calls → w.calls ≡ length (calls_of so.entries) + length calls
-        → (durable ≡ true → IsKept w.volume (view_now w.volume)) → more ≡ acks ++ acks_when durable (ack_now w) → stopped w.volume ≡ false
+        → (durable ≡ true → IsDurable w.volume) → more ≡ acks ++ acks_when durable (ack_now w) → stopped w.volume ≡ false
         → Keeping (view_now first.volume) w (calls_of so.entries ++ calls) more
     keeping_so calls durable made carries count kept are runs =
         step_keeping first now w (calls_of so.entries) calls acks more durable so.so.served.made made carries (count_joined calls count) kept are runs so.keeping
@@ -229,9 +254,9 @@ module _ {D : Type 0} {d : Ghosts D} where
           few = omega (arith, ap length joined, length-append (calls_of so.entries) step.calls, so.few, step.few, grows);
           short = omega (arith, so.short, grows, length-append so.entries (e ∷ []));
           lasts = subst (λ (c : List (Call × Reply)). LastsFrom (view_now first.volume) (disk_of first.volume) (disk_of w.volume) c more) (sym joined)
-              (lasts_so step.calls step.durable step.made step.carries count step.kept step.acks_are);
+              (lasts_so step.calls step.durable step.made step.carries count step.stands step.acks_are);
           keeping = subst (λ (c : List (Call × Reply)). Keeping (view_now first.volume) w c more) (sym joined)
-              (keeping_so step.calls step.durable step.made step.carries count step.kept step.acks_are runs);
+              (keeping_so step.calls step.durable step.made step.carries count step.stands step.acks_are runs);
           spending = λ n fresh. spending_so n e refl step.carries runs law fresh;
         }
 
@@ -266,7 +291,11 @@ module _ {D : Type 0} {d : Ghosts D} where
             calls_are = sym joined ∙ sym (append-nil (calls_of es));
             acks_are = acks_so step.calls step.durable a ends.0 ends.1 ends.2 ends.3 ends.4 step.made count step.acks_are read ∙ sym (append-nil (acknowledged 0 es));
           };
-          lasts = lasts_so step.calls step.durable step.made step.carries count step.kept step.acks_are;
+          stored = λ h.
+              let gone : lets_go (entry_of (first_item so.rest) step.calls ends.0 (state_of w)) ≡ true =
+              goes_so step.calls step.durable a ends.0 ends.1 ends.2 ends.3 ends.4 step.made count step.acks_are read true (ap is_last exits) in
+              (step.stands (ends.3 ∙ exit_acknowledges (first_item so.rest) ends.0 gone)).stored;
+          lasts = lasts_so step.calls step.durable step.made step.carries count step.stands step.acks_are;
           bounded = λ n fresh. (spending_so n e refl step.carries runs law fresh).bounded;
         }
 
@@ -306,7 +335,8 @@ module _ {D : Type 0} {d : Ghosts D} where
             calls_are = refl;
             acks_are = ap (map (λ (x : Ack). x.calls)) step.acks_are ∙ (acks_map acks step.durable (ack_now w) ∙ ap (λ x. x ++ one_if step.durable w.calls) so.acks_are);
           };
-          lasts = lasts_so step.calls step.durable step.made step.carries count step.kept step.acks_are;
+          stored = stop_stored f w step.durable w.calls step.stands;
+          lasts = lasts_so step.calls step.durable step.made step.carries count step.stands step.acks_are;
           bounded = λ n fresh. (so.spending n fresh).bounded;
         }
 
@@ -321,6 +351,11 @@ module _ {D : Type 0} {d : Ghosts D} where
     fault_open fault.Failed = so.open_yet
     fault_open fault.TooLong = so.open_yet
     fault_open fault.Memory = so.open_yet
+
+    fault_kept : (f : ScriptFault) → HasLetGo (fault_end f) [] → IsStored now.volume
+    fault_kept fault.Failed h = absurd h
+    fault_kept fault.TooLong h = absurd h
+    fault_kept fault.Memory h = absurd h
 
     -- the script is not read on
     pub stage_fault : (f : ScriptFault) → SessionRun first now s before held (record { end = fault_end f; refused = refused; lines = lines }) acks
@@ -339,6 +374,7 @@ module _ {D : Type 0} {d : Ghosts D} where
         calls_are = sym (append-nil (calls_of so.entries));
         acks_are = so.acks_are ∙ sym (append-nil (acknowledged 0 so.entries));
       };
+      stored = fault_kept f;
       lasts = so.lasts;
       bounded = λ n fresh. (so.spending n fresh).bounded;
     }
@@ -405,7 +441,8 @@ module _ {D : Type 0} {d : Ghosts D} where
             calls_are = refl;
             acks_are = ap (map (λ (x : Ack). x.calls)) step.acks_are ∙ (acks_map acks step.durable (ack_now w) ∙ ap (λ x. x ++ one_if step.durable w.calls) so.acks_are);
           };
-          lasts = step_lasts first now w (calls_of so.entries) [] acks more step.durable so.so.served.made step.made step.carries joined step.kept step.acks_are so.lasts so.keeping;
+          stored = over_stored end w step.durable w.calls (state_of now) step.stands step.ends;
+          lasts = step_lasts first now w (calls_of so.entries) [] acks more step.durable so.so.served.made step.made step.carries joined step.stands step.acks_are so.lasts so.keeping;
           bounded = λ n fresh. (so.spending n fresh).bounded;
         }
 
@@ -427,6 +464,7 @@ module _ {D : Type 0} {d : Ghosts D} where
       calls_are = refl;
       acks_are = refl;
     };
+    stored = λ h. absurd h;
     lasts = lasts_start v;
     bounded = λ n fresh. (spending_start n v law fresh).bounded;
   }

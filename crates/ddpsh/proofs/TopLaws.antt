@@ -1,22 +1,23 @@
 -- The end of a run.
-use Rattle.std.proofs.Common.{◌≡◌, ◌⊎◌, ◌≤◌, ℕ, Bool, true, false, List, Option, Some, map, inl, inr, ⊎_elim, refl, sym, ◌∙◌, ap, subst, arith}
+use Rattle.std.proofs.Common.{◌≡◌, ◌⊎◌, ◌≤◌, ℕ, Bool, true, false, List, Option, Some, map, inl, inr, ⊎_elim, refl, sym, subst, arith}
 use Rattle.vdisk.specs.Disk.{DiskState, Only}
 use Rattle.vdisk.specs.declared.disk.Disk.{Ghosts}
 use Rattle.meta_log.specs.Opened.{IsOnlyRead}
 use Rattle.plain_volume.specs.Volume.{Volume}
 use Rattle.plain_volume.specs.declared.call.Call.{Call}
 use Rattle.plain_volume.specs.declared.call.Reply.{Reply}
+use Rattle.volume_core.specs.States.{volume_in, IsStateOf}
 use Rattle.ddpsh.specs.States.{State}
 use Rattle.volume_core.specs.Volumes.{disk_of, device_of, view_now, IsKept}
 use Rattle.ddpsh.specs.Bounds.{Bounded, IsFresh}
-use Rattle.ddpsh.specs.Crashes.{Mounts, MountsAfter, Lasts, LastsFrom}
+use Rattle.ddpsh.specs.Crashes.{Mounts, LastsFrom}
 use Rattle.vdisk.specs.Causes.{Rose}
 use Rattle.volume_inside.specs.declared.mount_fault.MountFault.{MountFault}
 use Rattle.ddpsh.specs.Opens.{Opens, IsRefusal, is_reason}
-use Rattle.ddpsh.specs.Served.{volume_state}
+use Rattle.ddpsh.specs.Served.{volume_state, IsStored}
 use Rattle.ddpsh.specs.Sessions.{state_of}
 use Rattle.ddpsh.specs.Steps.{SessionRun}
-use Rattle.ddpsh.specs.Ends.{RunOf}
+use Rattle.ddpsh.specs.Ends.{RunOf, HasLetGo}
 use Rattle.ddpsh.specs.Told.{IsPrinted}
 use Rattle.ddpsh.specs.Outcomes.{last_line, status_of}
 use Rattle.ddpsh.specs.Whole.{IsServedRun, IsOpenedRun, IsRun}
@@ -41,8 +42,10 @@ first_left old first w read only mounts c left =
     let leaves : old.may_leave c = ⊎_elim (λ was. old.only_now c was) (λ now. now) (read.keeps.adds.since old.moment c (omega arith) left) in
     subst (λ (x : List ℕ). Mounts w x) (sym (only c leaves)) mounts
 
-mount_opens : (command : Command) (image : List ℕ) (w : Volume) → command ≡ Mount → Opens command image w → Mounts w image
-mount_opens command image w is opens = subst (λ (x : Command). Opens x image w) is opens
+mount_opens : (command : Command) (image : List ℕ) (s : State) → command ≡ Mount → Opens command image s → Mounts (volume_in s) image
+mount_opens command image s is opens =
+    let of : IsStateOf image s = subst (λ (x : Command). Opens x image s) is opens in
+    record { inside = s.inside; has = of.inside; is = refl }
 
 -- a run ends with status 7 where the source failed, or the script is too long
 pub source_by : (end : End) (refused : Bool) (status : ℕ) (A B : Type 0) → status ≡ status_of end refused → status ≡ 7
@@ -69,15 +72,17 @@ module _ {D : Type 0} {d : Ghosts D} where
   RunBounded v now s before mid ran calls acks =
       (run : RunOf (volume_state v) (state_of now) s before mid ran calls (map (λ x. x.calls) acks))
       × ((n : ℕ) → IsFresh n v → Bounded n 0 (volume_state v) run.entries)
+      × (HasLetGo ran.end run.last.acks → IsStored now.volume)
 
   bounded_as : (v : Engine D d) (first now : Session D d) (s : List ℕ) (before mid : Option (List ℕ)) (ran : Ran)
       (calls : List (Call × Reply)) (acks kept : List Ack) → first.volume ≡ v → kept ≡ acks
       → (run : RunOf (state_of first) (state_of now) s before mid ran calls (map (λ x. x.calls) acks))
       → ((n : ℕ) → IsFresh n first.volume → Bounded n 0 (state_of first) run.entries)
+      → (HasLetGo ran.end run.last.acks → IsStored now.volume)
       → RunBounded v now s before mid ran calls kept
-  bounded_as v first now s before mid ran calls acks kept volume same run bounded =
+  bounded_as v first now s before mid ran calls acks kept volume same run bounded stored =
       subst (λ (a : List Ack). RunBounded v now s before mid ran calls a) (sym same)
-      (subst (λ (e : Engine D d). RunBounded e now s before mid ran calls acks) volume (run, bounded))
+      (subst (λ (e : Engine D d). RunBounded e now s before mid ran calls acks) volume (run, bounded, stored))
 
   pub served_run : (v : Engine D d) (first now : Session D d) (back : D) (s : List ℕ) (before mid held : Option (List ℕ)) (faults between then : ℕ) (ran : Ran) (acks : List Ack) (outcome : Outcome)
       → first.volume ≡ v → back ≡ device_of now.volume → SessionRun first now s before mid ran acks → faults ≤ between → IsPrinted mid between (last_line ran.end) held then
@@ -85,7 +90,7 @@ module _ {D : Type 0} {d : Ghosts D} where
       → IsServedRun v (d.state back) s before held faults then outcome
   served_run v first now back s before mid held faults between then ran acks outcome volume same run later printed status lines opened kept =
       let both =
-      bounded_as v first now s before mid ran run.calls acks outcome.acks volume kept run.run run.bounded in
+      bounded_as v first now s before mid ran run.calls acks outcome.acks volume kept run.run run.bounded run.stored in
       record {
         ran = ran;
         closing = state_of now;
@@ -93,6 +98,7 @@ module _ {D : Type 0} {d : Ghosts D} where
         mid = mid;
         run = both.0;
         bounded = both.1;
+        stored = λ h. subst (λ (x : D). IsStateOf (d.state x).image (state_of now)) (sym same) (both.2 h);
         lasts = subst (λ (a : List Ack). LastsFrom (view_now v) (disk_of v) (d.state back) run.calls a) (sym kept)
             (subst (λ (x : D). LastsFrom (view_now v) (disk_of v) (d.state x) run.calls acks) (sym same)
             (subst (λ (e : Engine D d). LastsFrom (view_now e) (disk_of e) (disk_of now.volume) run.calls acks) volume run.lasts));
@@ -103,7 +109,7 @@ module _ {D : Type 0} {d : Ghosts D} where
       }
 
   pub opened_run : (command : Command) (v : Engine D d) (old new : DiskState) (s : List ℕ) (before held : Option (List ℕ)) (faults then : ℕ) (outcome : Outcome)
-      → Opens command old.image (view_now v) → IsKept v (view_now v) → (command ≡ Mount → IsOnlyRead old (disk_of v))
+      → Opens command old.image (volume_state v) → IsKept v (view_now v) → (command ≡ Mount → IsOnlyRead old (disk_of v))
       → ((n : ℕ) → command ≡ Format n → IsFresh n v) → IsServedRun v new s before held faults then outcome
       → IsOpenedRun command old new s before held faults then outcome
   opened_run command v old new s before held faults then outcome opens kept read fresh run = record {
@@ -116,6 +122,7 @@ module _ {D : Type 0} {d : Ghosts D} where
     calls = run.calls;
     mid = run.mid;
     run = run.run;
+    stored = run.stored;
     lasts = record {
       since = run.lasts.since (disk_of v).moment (omega arith) (λ c left. mounts_kept v (view_now v) kept c ((disk_of v).only_now c left));
       acknowledged = run.lasts.acknowledged;
@@ -124,7 +131,7 @@ module _ {D : Type 0} {d : Ghosts D} where
     bounded = λ n made. run.bounded n (fresh n made);
     from_start = λ mounted only.
         run.lasts.since old.moment ((read mounted).keeps.adds.later)
-        (first_left old (disk_of v) (view_now v) (read mounted) only (mount_opens command old.image (view_now v) mounted opens));
+        (first_left old (disk_of v) (view_now v) (read mounted) only (mount_opens command old.image (volume_state v) mounted opens));
     printed = run.printed;
     status = run.status;
     lines = run.lines;

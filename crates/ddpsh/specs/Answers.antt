@@ -1,15 +1,17 @@
 -- What is printed for an item, and which calls it makes.
-use Rattle.std.specs.Prelude.{◌≡◌, ◌⊎◌, ℕ, Bool, true, false, List, [], ◌∷◌, ◌++◌, length, replicate, Option, Some, None, codes, decimal}
+use Rattle.std.specs.Prelude.{◌≡◌, ◌⊎◌, ℕ, Bool, IsTrue, true, false, List, [], ◌∷◌, ◌++◌, length, replicate, Option, Some, None, codes, decimal}
 use Rattle.hex.specs.Hex.{encode_lower}
 use Rattle.cmdlet_line.specs.Lines.{Ask, Silent, Create, Write, Read, Fill, Length, Rename, Delete, Digest, Stat, Listing, Flush, Exit}
 use Rattle.cmdlet_line.specs.Lines.{Refusal, LineTooLong, BadQuote, UnknownCommand, NotBuilt, UnknownParameter, LeftOut, RepeatedParameter, MissingValue, BadValue, MissingParameter}
-use Rattle.plain_volume.specs.Step.{after as volume_after}
+use Rattle.plain_volume.specs.Step.{after as volume_after, takes_memory}
 use Rattle.plain_volume.specs.declared.call.Call.{Call}
 use Rattle.plain_volume.specs.declared.call.Call.TheVariants as call
 use Rattle.plain_volume.specs.declared.call.Reply.{Reply}
 use Rattle.plain_volume.specs.declared.call.Reply.TheVariants as reply
 use Rattle.plain_volume.specs.declared.call.Fault.{Fault}
 use Rattle.plain_volume.specs.declared.call.Fault.TheVariants as fault
+use Rattle.volume_core.specs.States.{volume_in}
+use Rattle.volume_core.specs.Moves.{Moves}
 use Rattle.ddpsh.specs.States.{State, reply_in}
 use Rattle.ddpsh.specs.Listing.{listing, file_lines}
 use Rattle.ddpsh.specs.Script.{Item, Bad, Bare, Paid, Cut, Spoilt}
@@ -84,11 +86,13 @@ said (reply.Length size) = Some (Accepted (number size))
 said (reply.Refused other) = said_fault other
 said other = None
 
--- A line of one call. The volume gives the plain machine's own reply, or the resource that is wanting.
+-- A line of one call. The volume gives the plain machine's own reply, or the resource that is wanting, and no setting,
+-- result or id changes that is not the call's own.
 pub record OneCall (call : Call) (before : State) (calls : List (Call × Reply)) (answer : Answer) (after : State) : Type 0 where
   pub calls_are : calls ≡ (call, reply_in before call) ∷ []
   pub says : said (reply_in before call) ≡ Some answer
-  pub leaves : after.volume ≡ volume_after before.volume call (reply_in before call)
+  pub leaves : volume_in after ≡ volume_after (volume_in before) call (reply_in before call)
+  pub moves : Moves call (reply_in before call) before after
 
 -- a line of no call, whose answer is told by the state
 pub record NoCall (says : State → Answer) (before : State) (calls : List (Call × Reply)) (answer : Answer) (after : State) : Type 0 where
@@ -101,13 +105,13 @@ pub record NoCall (says : State → Answer) (before : State) (calls : List (Call
 pub record Unmounts (before : State) (calls : List (Call × Reply)) (answer : Answer) (after : State) : Type 0 where
   pub calls_are : calls ≡ []
   pub says : said (reply_in before call.Flush) ≡ Some answer
-  pub leaves : after.volume ≡ before.volume
+  pub moves : Moves call.Flush (reply_in before call.Flush) before after
 
 -- A line that lists the files: their number, and behind it the line of each.
 pub record Lists (before : State) (calls : List (Call × Reply)) (answer : Answer) (after : State) : Type 0 where
-  pub calls_are : calls ≡ listing None before.volume
-  pub says : answer ≡ Accepted (number (length before.volume) ++ file_lines before.volume)
-  pub leaves : after.volume ≡ before.volume
+  pub calls_are : calls ≡ listing None (volume_in before)
+  pub says : answer ≡ Accepted (number (length (volume_in before)) ++ file_lines (volume_in before))
+  pub leaves : after ≡ before
 
 -- the calls of an accepted line with their replies, and its answer to these
 abbrev pub Serves : Ask → List ℕ → State → List (Call × Reply) → Answer → State → Type 0
@@ -133,23 +137,24 @@ Comes (Paid ask payload) = Serves ask payload
 Comes Cut = NoCall (λ before. Refused (codes " Cut"))
 Comes Spoilt = NoCall (λ before. Refused (codes " PayloadEnd"))
 
--- A line of one call in which the run ended: the call was not made, or it has the reply of its state, wanted memory, or
--- met a fault of the device.
+-- A line of one call in which the run ended: the call was not made, or it has the reply of its state, wanted memory, of
+-- which it takes some, or met a fault of the device.
 abbrev pub OneBegun : Call → State → List (Call × Reply) → Type 0
 OneBegun call before calls = (calls ≡ []) ⊎ ((given : Reply) × (calls ≡ (call, given) ∷ [])
-    × ((given ≡ reply_in before call) ⊎ ((given ≡ reply.Refused fault.Memory) ⊎ (given ≡ reply.Refused fault.Failed))))
+    × ((given ≡ reply_in before call) ⊎ (((given ≡ reply.Refused fault.Memory) × IsTrue (takes_memory call))
+    ⊎ (given ≡ reply.Refused fault.Failed))))
 
 -- the call that is due next, which wanted memory
 abbrev pub LacksMemory : List (Call × Reply) → List (Call × Reply) → Type 0
 LacksMemory [] last = ⊥
-LacksMemory (due ∷ rest) last = last ≡ (due.0, reply.Refused fault.Memory) ∷ []
+LacksMemory (due ∷ rest) last = (last ≡ (due.0, reply.Refused fault.Memory) ∷ []) × IsTrue (takes_memory due.0)
 
 -- A list in which the run ended: a front of its calls was made, behind which one may have wanted memory.
 pub record ListBegun (before : State) (calls : List (Call × Reply)) : Type 0 where
   pub front : List (Call × Reply)
   pub rest : List (Call × Reply)
   pub last : List (Call × Reply)
-  pub whole : listing None before.volume ≡ front ++ rest
+  pub whole : listing None (volume_in before) ≡ front ++ rest
   pub calls_are : calls ≡ front ++ last
   pub wanted : (last ≡ []) ⊎ LacksMemory rest last
 
@@ -173,6 +178,29 @@ abbrev pub Starts : Item → State → List (Call × Reply) → Type 0
 Starts (Bare ask) before calls = Begun ask [] before calls
 Starts (Paid ask payload) before calls = Begun ask payload before calls
 Starts other before calls = calls ≡ []
+
+-- the line makes no call
+abbrev pub makes_none : Item → Bool
+makes_none (Bad refusal) = true
+makes_none (Bare Silent) = true
+makes_none Cut = true
+makes_none Spoilt = true
+makes_none other = false
+
+-- what is asked may write to the disk
+abbrev pub may_change : Ask → Bool
+may_change Silent = false
+may_change (Read name at count) = false
+may_change (Digest name) = false
+may_change (Stat name) = false
+may_change Listing = false
+may_change other = true
+
+-- the line may write to the disk
+abbrev pub may_stop : Item → Bool
+may_stop (Bare ask) = may_change ask
+may_stop (Paid ask payload) = may_change ask
+may_stop other = false
 
 -- the line acknowledges that all calls so far are durable, once its whole answer is written
 abbrev pub is_durable : Item → Bool

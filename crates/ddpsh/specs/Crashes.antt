@@ -1,5 +1,5 @@
 -- What a crash leaves, during a run and behind it.
-use Rattle.std.specs.Prelude.{◌≡◌, ◌⊎◌, ◌≤◌, ◌+◌, ℕ, List, [], ◌∷◌, ◌++◌, length, take, false, Contains, Ok, Option, Some}
+use Rattle.std.specs.Prelude.{◌≡◌, ◌⊎◌, ◌≤◌, ◌+◌, ℕ, List, [], ◌∷◌, length, take, false, Contains, Ok}
 use Rattle.vdisk.specs.Disk.{DiskState}
 use Rattle.vdisk.specs.Steps.{Keeps}
 use Rattle.vdisk.specs.declared.disk.Disk.{Ghosts}
@@ -12,7 +12,7 @@ use Rattle.volume_inside.specs.InsideOf.{InsideOf}
 use Rattle.volume_inside.specs.View.{view}
 use Rattle.volume_tables.specs.Mount.{read_meta}
 use Rattle.volume_core.specs.Bounds.{HasSpent}
-use Rattle.volume_core.specs.Volumes.{disk_of, device_of, view_now, clusters_in, stopped, IsKept}
+use Rattle.volume_core.specs.Volumes.{disk_of, view_now, clusters_in, stopped, IsKept}
 use Rattle.ddpsh.specs.Bounds.{touched_by_all}
 use Rattle.ddpsh.specs.declared.acks.Ack.{Ack}
 use Rattle.volume_core.specs.declared.volume.Volume.{Volume as Engine}

@@ -1,5 +1,5 @@
 -- How a run ends.
-use Rattle.std.specs.Prelude.{◌≡◌, ◌+◌, ◌&&◌, ℕ, Bool, true, false, List, [], ◌∷◌, ◌++◌, Option, Some, None, length, map}
+use Rattle.std.specs.Prelude.{◌≡◌, ◌+◌, ◌&&◌, ℕ, Bool, true, false, List, [], ◌∷◌, ◌++◌, Option, Some, length}
 use Rattle.plain_volume.specs.declared.call.Call.{Call}
 use Rattle.plain_volume.specs.declared.call.Call.TheVariants as call
 use Rattle.plain_volume.specs.declared.call.Reply.{Reply}
@@ -78,6 +78,13 @@ abbrev pub StaysOpenUntil : End → List Entry → Type 0
 StaysOpenUntil ends.Exit es =
     (front : List Entry) × (last : Entry) × (es ≡ front ++ last ∷ []) × StayOpen front × (lets_go last ≡ true)
 StaysOpenUntil other es = StayOpen es
+
+-- the run let the volume go: at the end of its script, or by an `exit`, whether or not the sink took all of its answer
+abbrev pub HasLetGo : End → List ℕ → Type 0
+HasLetGo ends.Over acks = Unit {0}
+HasLetGo ends.Exit acks = Unit {0}
+HasLetGo ends.Sink acks = acks ≡ [] → ⊥
+HasLetGo other acks = ⊥
 
 -- what was answered so far, with what was printed and what is told of it
 pub record AnsweredSo (opening now : State) (script : List ℕ) (before held : Option (List ℕ)) (refused : Bool)

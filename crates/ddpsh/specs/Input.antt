@@ -1,6 +1,7 @@
 -- What was read ahead of a script, and what is left of it.
-use Rattle.std.specs.Prelude.{◌≡◌, ◌+◌, ◌-◌, ℕ, List, ◌++◌, take, drop, length, Option, Some}
+use Rattle.std.specs.Prelude.{◌≡◌, ◌≤◌, ◌+◌, ◌-◌, ◌^◌, min, ℕ, List, ◌++◌, take, drop, length, Option, Some}
 use Rattle.ddpsh.specs.declared.input.Input.{Input}
+use Rattle.ddpsh.specs.declared.limits.TheConstants.{MOST_SCRIPT}
 
 -- the bytes that were read ahead
 unfoldable pub ahead : Input → List ℕ
@@ -27,3 +28,11 @@ pub record HasRead (n : ℕ) (out bytes : List ℕ) (input : Input) (source : Op
 pub record IsFilled (n : ℕ) (out bytes : List ℕ) (input : Input) (source : Option (List ℕ)) (total : ℕ) : Type 0 where
   pub read : take n out ≡ take (length out) bytes
   pub left : IsLeft input source total (drop (length out) bytes)
+
+-- a source that had given `first` bytes before counts these too, or stands at the last value of a counter
+abbrev pub HasGiven : ℕ → ℕ → ℕ → Type 0
+HasGiven first came given = min (first + came) (2 ^ 64 - 1) ≤ given
+
+-- a source has given more bytes than a script may have, or stands at the last value of a counter
+abbrev pub GaveTooMany : ℕ → ℕ → Type 0
+GaveTooMany before now = min (before + (MOST_SCRIPT + 1)) (2 ^ 64 - 1) ≤ now

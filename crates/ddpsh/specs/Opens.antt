@@ -1,22 +1,22 @@
 -- How a volume is opened, and why none is.
-use Rattle.std.specs.Prelude.{◌≡◌, Bool, true, false, ℕ, List, []}
+use Rattle.std.specs.Prelude.{◌≡◌, Bool, true, false, ℕ, List}
 use Rattle.vdisk.specs.Causes.{Rose}
 use Rattle.vdisk.specs.Disk.{DiskState}
-use Rattle.plain_volume.specs.Volume.{Volume}
+use Rattle.volume_core.specs.States.{IsStateOf, IsFreshState}
 use Rattle.volume_inside.specs.declared.mount_fault.MountFault.{MountFault}
 use Rattle.volume_inside.specs.declared.mount_fault.MountFault.TheVariants as mount
 use Rattle.volume_tables.specs.Mount.{IsMountFault}
 use Rattle.volume_tables.specs.Formats.{IsFormatFault}
-use Rattle.ddpsh.specs.Crashes.{Mounts}
+use Rattle.ddpsh.specs.States.{State}
 use Rattle.ddpsh.specs.declared.commands.Command.{Command}
 use Rattle.ddpsh.specs.declared.commands.Command.TheVariants.{Mount, Format}
 use Rattle.ddpsh.specs.declared.ending.End.{End}
 use Rattle.ddpsh.specs.declared.ending.End.TheVariants as ends
 
--- the volume that a run opens with: what the image shows, or no file
-abbrev pub Opens : Command → List ℕ → Volume → Type 0
-Opens Mount image w = Mounts w image
-Opens (Format clusters) image w = w ≡ []
+-- the state that a run opens with: that of the image, or that of a fresh volume of so many clusters
+abbrev pub Opens : Command → List ℕ → State → Type 0
+Opens Mount image s = IsStateOf image s
+Opens (Format clusters) image s = IsFreshState clusters s
 
 -- why the disk was not mounted, or no volume made on it
 abbrev pub IsRefusal : Command → DiskState → DiskState → MountFault → Type 0

@@ -4,6 +4,9 @@ use Rattle.std.specs.List.{list_any}
 use Rattle.plain_volume.specs.Step.{Legal, replay}
 use Rattle.plain_volume.specs.declared.call.Call.{Call}
 use Rattle.plain_volume.specs.declared.call.Reply.{Reply}
+use Rattle.volume_inside.specs.Inside.{Inside}
+use Rattle.volume_core.specs.States.{volume_in}
+use Rattle.volume_core.specs.Moves.{inside_after}
 use Rattle.ddpsh.specs.States.{State}
 use Rattle.ddpsh.specs.Script.{Item, BeginsWith}
 use Rattle.ddpsh.specs.Answers.{Answer, text_of, is_refused, is_answered, is_accepted, is_durable, is_exit, Comes}
@@ -66,10 +69,17 @@ acknowledged n [] = []
 acknowledged n (e ∷ es) =
     one_if (acknowledges e.item e.answer) (n + length e.calls) ++ acknowledged (n + length e.calls) es
 
+-- what calls with their replies leave of an inside
+abbrev pub insides_after : List (Call × Reply) → Inside → Inside
+insides_after [] i = i
+insides_after (pair ∷ calls) i = insides_after calls (inside_after pair.0 pair.1 i)
+
 -- calls with lawful replies, from one state to the next
 pub record Made (v w : State) (calls : List (Call × Reply)) : Type 0 where
-  pub legal : Legal v.volume calls
-  pub now : w.volume ≡ replay v.volume calls
+  pub legal : Legal (volume_in v) calls
+  pub now : volume_in w ≡ replay (volume_in v) calls
+  pub inside : w.inside ≡ insides_after calls v.inside
+  pub clusters : w.clusters ≡ v.clusters
 
 -- these are the first items of the script with their answers, the rest stands behind them, and they leave this state
 pub record Served (opening : State) (script : List ℕ) (es : List Entry) (rest : List ℕ) (now : State) : Type 0 where

@@ -1,5 +1,5 @@
 -- What an item comes to, served by a volume, before its answer is written.
-use Rattle.std.specs.Prelude.{◌≡◌, ◌≤◌, ◌⊎◌, ℕ, true, false, List, length, Result, Ok, Err, OnOk, IsErrOf}
+use Rattle.std.specs.Prelude.{◌≡◌, ◌≤◌, ℕ, true, false, List, length, Result, Ok, Err, OnOk, IsErrOf}
 use Rattle.vdisk.specs.Causes.{Rose}
 use Rattle.vdisk.specs.declared.disk.Disk.{Ghosts}
 use Rattle.cmdlet_line.specs.Lines.{Ask, Refusal, ask_of, refusal_of}
@@ -9,7 +9,8 @@ use Rattle.plain_volume.specs.declared.call.Call.{Call}
 use Rattle.plain_volume.specs.declared.call.Reply.{Reply}
 use Rattle.ddpsh.specs.States.{State}
 use Rattle.volume_core.specs.Volumes.{device_of, disk_of, view_now, stopped, IsKept}
-use Rattle.volume_core.specs.Wants.{wants_of}
+use Rattle.volume_core.specs.States as states
+use Rattle.volume_core.specs.States.{IsStateOf}
 use Rattle.ddpsh.specs.Crashes.{Carries}
 use Rattle.ddpsh.specs.Script.{Item}
 use Rattle.ddpsh.specs.Answers.{Answer, text_of, Comes, Starts}
@@ -29,7 +30,16 @@ asked_as (Err fault) = Err (refusal_of fault)
 
 module _ {D : Type 0} {d : Ghosts D} where
   abbrev pub volume_state : Engine D d → State
-  volume_state v = record { volume = view_now v; wants = wants_of v }
+  volume_state v = states.state_of v
+
+  -- the state is that of the image
+  abbrev pub IsStored : Engine D d → Type 0
+  IsStored v = IsStateOf (disk_of v).image (volume_state v)
+
+  -- all calls so far are durable: the volume now is kept, and the image has the inside of the state
+  pub record IsDurable (v : Engine D d) : Type 0 where
+    pub kept : IsKept v (view_now v)
+    pub stored : IsStored v
 
   -- an item was served by a volume, and this is what it prints; its calls were counted
   pub record IsServed (item : Item) (old new : Engine D d) (made : ℕ) (kind : Answered) (text : List ℕ) : Type 0 where
@@ -39,7 +49,7 @@ module _ {D : Type 0} {d : Ghosts D} where
     pub legal : Made (volume_state old) (volume_state new) calls
     pub count : made ≡ length calls
     pub carries : Carries old new calls
-    pub kept : acknowledges item answer ≡ true → IsKept new (view_now new)
+    pub durable : acknowledges item answer ≡ true → IsDurable new
     pub text_is : text ≡ text_of answer
     pub kind_is : kind ≡ kind_of item answer
 

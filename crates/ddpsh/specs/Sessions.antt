@@ -5,8 +5,8 @@ use Rattle.plain_volume.specs.declared.call.Call.{Call}
 use Rattle.plain_volume.specs.declared.call.Call.TheVariants as call
 use Rattle.plain_volume.specs.declared.call.Reply.{Reply}
 use Rattle.ddpsh.specs.States.{State, reply_in}
-use Rattle.volume_core.specs.Volumes.{disk_of, view_now, stopped, IsKept}
-use Rattle.ddpsh.specs.Served.{volume_state, ComesTo}
+use Rattle.volume_core.specs.Volumes.{disk_of, stopped}
+use Rattle.ddpsh.specs.Served.{volume_state, ComesTo, IsDurable}
 use Rattle.ddpsh.specs.Crashes.{Carries}
 use Rattle.ddpsh.specs.Script.{Item}
 use Rattle.ddpsh.specs.Answers.{Answer, text_of, said, is_accepted, is_refused, is_exit, Comes, Starts}
@@ -97,10 +97,10 @@ module _ {D : Type 0} {d : Ghosts D} where
       (made : ℕ) × (new.calls ≡ counted_on old.calls made) × (made ≤ MOST_CALLS_OF_A_LINE)
       × ComesTo item old.volume new.volume made result text
 
-  -- what is kept of acknowledgements: the last line's, if it gave one, where the volume now is kept
-  pub record Acks (new : Session D d) (durable : Bool) : Type 0 where
-    pub ack : new.ack ≡ acks_if durable (ack_now new)
-    pub kept : durable ≡ true → IsKept new.volume (view_now new.volume)
+  -- what is kept of acknowledgements: the last line's, if it gave one, where all calls so far are durable
+  pub record Acks (new : Session D d) (acked : Bool) : Type 0 where
+    pub ack : new.ack ≡ acks_if acked (ack_now new)
+    pub durable : acked ≡ true → IsDurable new.volume
 
   -- WHAT A LINE DOES, over a disk that tells what it holds: these calls were made with these replies, it ends so, and a
   -- crash at any moment of it leaves the volume after a front of the calls, or what was kept before.

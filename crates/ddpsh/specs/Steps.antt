@@ -10,11 +10,12 @@ use Rattle.ddpsh.specs.States.{State, reply_in}
 use Rattle.volume_core.specs.Bounds.{HasSpent}
 use Rattle.volume_core.specs.Volumes.{disk_of, view_now, clusters_in, IsKept}
 use Rattle.ddpsh.specs.Bounds.{touched_by_all, Bounded, IsFresh}
+use Rattle.ddpsh.specs.Served.{IsDurable, IsStored}
 use Rattle.ddpsh.specs.Crashes.{Carries, LastsFrom}
 use Rattle.ddpsh.specs.Script.{Item}
 use Rattle.ddpsh.specs.Answers.{Answer, said, is_accepted, is_refused}
 use Rattle.ddpsh.specs.Runs.{Entry, Made, StayOpen, calls_of, acknowledged}
-use Rattle.ddpsh.specs.Ends.{AnsweredSo, RunOf, stop_end, over_end}
+use Rattle.ddpsh.specs.Ends.{AnsweredSo, RunOf, HasLetGo, stop_end, over_end}
 use Rattle.ddpsh.specs.Input.{IsLeft, taken}
 use Rattle.ddpsh.specs.Sessions.{state_of, ack_now, counted_on, LineEnds}
 use Rattle.ddpsh.specs.declared.limits.TheConstants.{MOST_CALLS_OF_A_LINE}
@@ -65,7 +66,7 @@ module _ {D : Type 0} {d : Ghosts D} where
     pub few : length calls ≤ MOST_CALLS_OF_A_LINE
     pub carries : Carries old.volume new.volume calls
     pub acks_are : later ≡ acks ++ acks_when durable (ack_now new)
-    pub kept : durable ≡ true → IsKept new.volume (view_now new.volume)
+    pub stands : durable ≡ true → IsDurable new.volume
 
   -- what the end of a script does to a run
   pub record DoesEndStep (old new : Session D d) (end : End) (acks later : List Ack) : Type 0 where
@@ -75,7 +76,7 @@ module _ {D : Type 0} {d : Ghosts D} where
     pub counted : new.calls ≡ old.calls
     pub carries : Carries old.volume new.volume []
     pub acks_are : later ≡ acks ++ acks_when durable (ack_now new)
-    pub kept : durable ≡ true → IsKept new.volume (view_now new.volume)
+    pub stands : durable ≡ true → IsDurable new.volume
 
   -- What a run over a fresh volume has spent at some point, and what was wanting by then.
   pub record Spending (n : ℕ) (first now : Session D d) (entries : List Entry) : Type 0 where
@@ -112,5 +113,6 @@ module _ {D : Type 0} {d : Ghosts D} where
       (acks : List Ack) : Type 0 where
     pub calls : List (Call × Reply)
     pub run : RunOf (state_of first) (state_of now) script before held ran calls (map (λ ack. ack.calls) acks)
+    pub stored : HasLetGo ran.end run.last.acks → IsStored now.volume
     pub lasts : LastsFrom (view_now first.volume) (disk_of first.volume) (disk_of now.volume) calls acks
     pub bounded : (n : ℕ) → IsFresh n first.volume → Bounded n 0 (state_of first) run.entries

@@ -1,11 +1,12 @@
 -- A whole run of the program.
-use Rattle.std.specs.Prelude.{◌≡◌, ◌⊎◌, ◌≤◌, ◌*◌, ℕ, Bool, false, List, [], Option, Some, None, length, map}
+use Rattle.std.specs.Prelude.{◌≡◌, ◌⊎◌, ℕ, Bool, false, List, [], Option, Some, None, map}
 use Rattle.vdisk.specs.Disk.{DiskState, Only}
 use Rattle.vdisk.specs.declared.disk.Disk.{Ghosts}
 use Rattle.plain_volume.specs.declared.call.Call.{Call}
 use Rattle.plain_volume.specs.declared.call.Reply.{Reply}
 use Rattle.volume_core.specs.Volumes.{disk_of, view_now}
 use Rattle.volume_core.specs.declared.volume.Volume.{Volume as Engine}
+use Rattle.volume_core.specs.States.{volume_in, IsStateOf}
 use Rattle.ddpsh.specs.States.{State}
 use Rattle.ddpsh.specs.Served.{volume_state}
 use Rattle.ddpsh.specs.Bounds.{Bounded, IsFresh}
@@ -13,7 +14,7 @@ use Rattle.ddpsh.specs.Crashes.{MountsAfter, Lasts, LastsFrom}
 use Rattle.volume_inside.specs.declared.mount_fault.MountFault.{MountFault}
 use Rattle.ddpsh.specs.Opens.{Opens, EndsUnopened, IsRefusedEnd}
 use Rattle.ddpsh.specs.Told.{IsPrinted}
-use Rattle.ddpsh.specs.Ends.{RunOf}
+use Rattle.ddpsh.specs.Ends.{RunOf, HasLetGo}
 use Rattle.ddpsh.specs.Outcomes.{status_of, last_line}
 use Rattle.ddpsh.specs.declared.commands.Command.{Command}
 use Rattle.ddpsh.specs.declared.commands.Command.TheVariants.{Mount, Format}
@@ -30,6 +31,7 @@ module _ {D : Type 0} {d : Ghosts D} where
     pub calls : List (Call × Reply)
     pub mid : Option (List ℕ)
     pub run : RunOf (volume_state first) closing script before mid ran calls (map (λ ack. ack.calls) outcome.acks)
+    pub stored : HasLetGo ran.end run.last.acks → IsStateOf now.image closing
     pub lasts : LastsFrom (view_now first) (disk_of first) now calls outcome.acks
     pub bounded : (n : ℕ) → IsFresh n first → Bounded n 0 (volume_state first) run.entries
     pub printed : IsPrinted mid faults_before (last_line ran.end) held faults_now
@@ -41,7 +43,7 @@ module _ {D : Type 0} {d : Ghosts D} where
 pub record IsOpenedRun (command : Command) (old new : DiskState) (script : List ℕ) (before held : Option (List ℕ))
     (faults_before faults_now : ℕ) (outcome : Outcome) : Type 0 where
   pub opening : State
-  pub opens : Opens command old.image opening.volume
+  pub opens : Opens command old.image opening
   pub opened : ℕ
   pub opened_is : outcome.opened ≡ Some opened
   pub ran : Ran
@@ -49,12 +51,14 @@ pub record IsOpenedRun (command : Command) (old new : DiskState) (script : List 
   pub calls : List (Call × Reply)
   pub mid : Option (List ℕ)
   pub run : RunOf opening closing script before mid ran calls (map (λ ack. ack.calls) outcome.acks)
-  pub lasts : Lasts opening.volume opened calls outcome.acks new
+  -- where the volume was let go, the image has the last inside
+  pub stored : HasLetGo ran.end run.last.acks → IsStateOf new.image closing
+  pub lasts : Lasts (volume_in opening) opened calls outcome.acks new
   -- over a volume that was made anew nothing was wanting that was not spent
   pub bounded : (n : ℕ) → command ≡ Format n → Bounded n 0 opening run.entries
   -- an image that is mounted, and that was all that a crash could leave, lasts from the start on
   pub from_start : command ≡ Mount → Only old.image old.may_leave
-      → (c : List ℕ) → new.left_since old.moment c → MountsAfter opening.volume calls 0 c
+      → (c : List ℕ) → new.left_since old.moment c → MountsAfter (volume_in opening) calls 0 c
   pub printed : IsPrinted mid faults_before (last_line ran.end) held faults_now
   pub status : outcome.status ≡ status_of ran.end ran.refused
   pub lines : outcome.lines ≡ ran.lines

@@ -1,9 +1,9 @@
 // One line with what stands behind it, served by a volume.
-ghost use Rattle.std.specs.Prelude.{◌≡◌, false, Some, Ok, replicate, IfOk, OnOk, OnErr, IsErrOf};
+ghost use Rattle.std.specs.Prelude.{◌≡◌, false, true, Some, Ok, replicate, IfOk, OnOk, OnErr, IsErrOf};
 ghost use Rattle.cmdlet_line.specs.Lines.{Create, Write, Read, Fill, Length, Rename, Delete, Digest, Stat, Flush, Exit, ask_of};
 ghost use Rattle.plain_volume.specs.Replies.{done_reply};
 ghost use Rattle.ddpsh.specs.Script.{item_of, with_payload, Bare, Paid};
-ghost use Rattle.ddpsh.specs.Answers.{Answer, said};
+ghost use Rattle.ddpsh.specs.Answers.{Answer, said, makes_none, may_stop};
 ghost use Rattle.ddpsh.specs.Saying.{IsSaid};
 ghost use Rattle.plain_volume.specs.Volume.{Volume as PlainVolume};
 ghost use Rattle.volume_core.specs.Volumes.{stopped, IsKept};
@@ -20,7 +20,7 @@ use cmdlet_line::{Line, LineFault};
 use plain_volume::{Fault, own_replies_are_steps};
 use std::alloc::Global;
 use vdisk::Disk;
-use volume_core::Volume;
+use volume_core::{Volume, volumes_wear_at_the_last_epoch};
 
 /// How many calls a line has made, and the kind of its answer, or why it has none.
 #[derive(Clone, Copy)]
@@ -99,6 +99,11 @@ fn write_line<D: Disk>(
     ensures told { (w : PlainVolume) → IsKept volume.old w →
         Attempts (with_payload (Write name.now at count) behind.now (Some count)) volume.old volume.new result
         text.new.items }
+    ensures idle { makes_none (with_payload (Write name.now at count) behind.now (Some count)) ≡ true →
+        Attempts (with_payload (Write name.now at count) behind.now (Some count)) volume.old volume.new result
+        text.new.items }
+    ensures stays { may_stop (with_payload (Write name.now at count) behind.now (Some count)) ≡ false →
+        stopped volume.new ≡ false }
     ensures steady { IsSteady volume.old volume.new result }
 {
     if (behind.len() as u64) < count {
@@ -121,6 +126,7 @@ fn read<D: Disk>(
     requires { stopped volume.old ≡ false }
     ensures told { (w : PlainVolume) → IsKept volume.old w →
         Attempts (Bare (Read name.now at count)) volume.old volume.new result text.new.items }
+    ensures runs { stopped volume.new ≡ false }
     ensures steady { IsSteady volume.old volume.new result }
 {
     own_replies_are_steps();
@@ -241,6 +247,7 @@ fn digest<D: Disk>(volume: &mut Volume<D>, name: &[u8], text: &mut Vec<u8>) -> A
     requires { stopped volume.old ≡ false }
     ensures told { (w : PlainVolume) → IsKept volume.old w →
         Attempts (Bare (Digest name.now)) volume.old volume.new result text.new.items }
+    ensures runs { stopped volume.new ≡ false }
     ensures steady { IsSteady volume.old volume.new result }
 {
     own_replies_are_steps();
@@ -256,6 +263,7 @@ fn stat<D: Disk>(volume: &Volume<D>, name: &[u8], text: &mut Vec<u8>) -> Attempt
     ensures steady { IsSteady volume.now volume.now result }
 {
     own_replies_are_steps();
+    volumes_wear_at_the_last_epoch(volume);
     match volume.stat(name) {
         Ok(size) => called(accepted_number(text, size)),
         Err(fault) => called(refused_call(text, fault)),
@@ -272,6 +280,9 @@ fn answer_line<D: Disk>(
     requires { stopped volume.old ≡ false }
     ensures told { (w : PlainVolume) → IsKept volume.old w →
         Attempts (item_of (Ok (ask_of line.entry)) behind.now) volume.old volume.new result text.new.items }
+    ensures idle { makes_none (item_of (Ok (ask_of line.entry)) behind.now) ≡ true →
+        Attempts (item_of (Ok (ask_of line.entry)) behind.now) volume.old volume.new result text.new.items }
+    ensures stays { may_stop (item_of (Ok (ask_of line.entry)) behind.now) ≡ false → stopped volume.new ≡ false }
     ensures steady { IsSteady volume.old volume.new result }
 {
     match line {
@@ -303,6 +314,9 @@ pub(crate) fn answer<D: Disk>(
     requires { stopped volume.old ≡ false }
     ensures told { (w : PlainVolume) → IsKept volume.old w →
         Attempts (item_of (asked_as asked.entry) behind.now) volume.old volume.new result text.new.items }
+    ensures idle { makes_none (item_of (asked_as asked.entry) behind.now) ≡ true →
+        Attempts (item_of (asked_as asked.entry) behind.now) volume.old volume.new result text.new.items }
+    ensures stays { may_stop (item_of (asked_as asked.entry) behind.now) ≡ false → stopped volume.new ≡ false }
     ensures steady { IsSteady volume.old volume.new result }
 {
     match asked {

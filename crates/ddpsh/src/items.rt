@@ -1,8 +1,8 @@
 // Items from a script.
-ghost use Rattle.std.specs.Prelude.{◌≡◌, ◌≤◌, ◌<◌, ◌^◌, ℕ, List, IfOk, IsErrOf, IsTrue, vec_capacity};
+ghost use Rattle.std.specs.Prelude.{◌≡◌, ◌≤◌, ◌<◌, ◌^◌, ℕ, List, IfOk, OnOk, IsErrOf, IsTrue, vec_capacity};
 ghost use Rattle.vdisk.specs.Causes.{Rose};
 ghost use Rattle.ddpsh.specs.declared.limits.TheConstants.{MOST_SCRIPT, MOST_KEPT};
-ghost use Rattle.ddpsh.specs.Input.{taken, IsLeft};
+ghost use Rattle.ddpsh.specs.Input.{taken, IsLeft, HasGiven, GaveTooMany};
 ghost use Rattle.ddpsh.specs.Script.{asked, wanted};
 ghost use Rattle.ddpsh.specs.Reading.{IsItem};
 
@@ -40,6 +40,10 @@ pub(crate) fn read_item<S: Source>(
     ensures grows { taken input.old ≤ taken input.new }
     ensures over { (total : ℕ) (s : List ℕ) → IsLeft input.old (S.left script.old) total s →
         IsErrOf result ScriptFault.TooLong → MOST_SCRIPT < total }
+    ensures given { (first : ℕ) → HasGiven first input.old.came (S.given script.old) →
+        OnOk result (HasGiven first input.new.came (S.given script.new)) }
+    ensures many { (first : ℕ) → HasGiven first input.old.came (S.given script.old) →
+        IsErrOf result ScriptFault.TooLong → GaveTooMany first (S.given script.new) }
     ensures later { S.faults script.old ≤ S.faults script.new }
     ensures failed { IsErrOf result ScriptFault.Failed → Rose (S.faults script.old) (S.faults script.new) }
 {

@@ -23,7 +23,7 @@ mod top;
 pub use acks::{Ack, Acks};
 pub use answers::Answered;
 pub use commands::{Command, command_of};
-pub use laws::{items_have_one_answer, scripts_have_one_output};
+pub use laws::{items_have_one_answer, outputs_fix_states, scripts_have_one_output};
 pub use limits::{FEWEST_CLUSTERS, MOST_AHEAD, MOST_CALLS_OF_A_LINE, MOST_CLUSTERS, MOST_SCRIPT};
 pub use session::Session;
 pub use stops::SessionFault;

@@ -2,7 +2,7 @@
 ghost use Rattle.std.specs.Prelude.{◌≡◌, ◌+◌, ◌-◌, ◌≤◌, ◌<◌, ◌^◌, ◌++◌, ℕ, List, Option, Some, length, take, drop, vec_len, vec_capacity, IfOk, OnOk, IsErrOf, IsTrue};
 ghost use Rattle.vdisk.specs.Causes.{Rose};
 ghost use Rattle.ddpsh.specs.declared.limits.TheConstants.{MOST_SCRIPT, MOST_KEPT};
-ghost use Rattle.ddpsh.specs.Input.{ahead, taken, IsLeft};
+ghost use Rattle.ddpsh.specs.Input.{ahead, taken, IsLeft, HasGiven, GaveTooMany};
 ghost use Rattle.ddpsh.specs.Script.{behind_line, without_return};
 ghost use Rattle.ddpsh.specs.Reading.{FindsNewline, IsFront, IsTakenOn, IsPassedOn, IsLine};
 
@@ -51,6 +51,7 @@ fn take_ahead(input: &mut Input, line: &mut Vec<u8>) -> bool
     requires few { vec_len line.old ≤ MOST_KEPT }
     ensures room { MOST_KEPT ≤ vec_capacity line.new }
     ensures few { vec_len line.new ≤ MOST_KEPT }
+    ensures came { input.new.came ≡ input.old.came }
     ensures grows { taken input.old ≤ taken input.new }
     ensures counted { 0 < input.old.end - input.old.start → taken input.old < taken input.new }
     ensures line { (source : Option (List ℕ)) (total : ℕ) (bytes : List ℕ) →
@@ -87,6 +88,10 @@ pub(crate) fn read_line<S: Source>(
     ensures grows { taken input.old ≤ taken input.new }
     ensures over { (total : ℕ) (s : List ℕ) → IsLeft input.old (S.left script.old) total s →
         IsErrOf result ScriptFault.TooLong → MOST_SCRIPT < total }
+    ensures given { (first : ℕ) → HasGiven first input.old.came (S.given script.old) →
+        OnOk result (HasGiven first input.new.came (S.given script.new)) }
+    ensures many { (first : ℕ) → HasGiven first input.old.came (S.given script.old) →
+        IsErrOf result ScriptFault.TooLong → GaveTooMany first (S.given script.new) }
     ensures later { S.faults script.old ≤ S.faults script.new }
     ensures failed { IsErrOf result ScriptFault.Failed → Rose (S.faults script.old) (S.faults script.new) }
 {
@@ -109,6 +114,7 @@ pub(crate) fn read_line<S: Source>(
 
 /// Passes over what was read ahead, up to and with the first newline; false where there is none.
 fn pass_ahead(input: &mut Input) -> bool
+    ensures came { input.new.came ≡ input.old.came }
     ensures grows { taken input.old ≤ taken input.new }
     ensures counted { 0 < input.old.end - input.old.start → taken input.old < taken input.new }
     ensures left { (source : Option (List ℕ)) (total : ℕ) (bytes : List ℕ) → IsLeft input.old source total bytes →
@@ -135,6 +141,10 @@ pub(crate) fn skip_line<S: Source>(script: &mut S, input: &mut Input) -> Result<
     ensures grows { taken input.old ≤ taken input.new }
     ensures over { (total : ℕ) (s : List ℕ) → IsLeft input.old (S.left script.old) total s →
         IsErrOf result ScriptFault.TooLong → MOST_SCRIPT < total }
+    ensures given { (first : ℕ) → HasGiven first input.old.came (S.given script.old) →
+        OnOk result (HasGiven first input.new.came (S.given script.new)) }
+    ensures many { (first : ℕ) → HasGiven first input.old.came (S.given script.old) →
+        IsErrOf result ScriptFault.TooLong → GaveTooMany first (S.given script.new) }
     ensures later { S.faults script.old ≤ S.faults script.new }
     ensures failed { IsErrOf result ScriptFault.Failed → Rose (S.faults script.old) (S.faults script.new) }
 {

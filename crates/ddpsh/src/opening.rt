@@ -6,6 +6,7 @@ ghost use Rattle.ddpsh.specs.Bounds.{IsFresh};
 ghost use Rattle.ddpsh.specs.Commands.{IsInRange};
 ghost use Rattle.ddpsh.specs.Opens.{Opens, IsRefusal, IsRefusedEnd};
 ghost use Rattle.ddpsh.specs.Outcomes.{mount_text};
+ghost use Rattle.ddpsh.specs.Served.{volume_state};
 ghost use Rattle.volume_core.specs.Volumes.{device_of, disk_of, view_now, stopped, IsKept};
 ghost use Rattle.ddpsh.specs.declared.commands.Command.TheVariants as asks;
 
@@ -25,7 +26,7 @@ pub(crate) fn open<D: Disk>(
 ) -> Result<Volume<D>, (D, MountFault)>
     requires { IsInRange command }
     ensures opens { IsTrue (D.state disk).tells →
-        IfOk result (λ v. Opens command (D.state disk).image (view_now v)) }
+        IfOk result (λ v. Opens command (D.state disk).image (volume_state v)) }
     ensures kept { IsTrue (D.state disk).tells → IfOk result (λ v. IsKept v (view_now v)) }
     ensures runs { IfOk result (λ v. stopped v ≡ false) }
     ensures fresh { (n : ℕ) → command ≡ asks.Format n → IfOk result (λ v. IsFresh n v) }

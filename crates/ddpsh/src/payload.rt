@@ -2,7 +2,7 @@
 ghost use Rattle.std.specs.Prelude.{◌≡◌, ◌+◌, ◌≤◌, ◌<◌, ◌^◌, ℕ, List, length, take, drop, vec_len, IfOk, OnOk, IsErrOf, true, not};
 ghost use Rattle.vdisk.specs.Causes.{Rose};
 ghost use Rattle.ddpsh.specs.declared.limits.TheConstants.{MOST_SCRIPT};
-ghost use Rattle.ddpsh.specs.Input.{taken, IsLeft, IsFilled};
+ghost use Rattle.ddpsh.specs.Input.{taken, IsLeft, HasGiven, GaveTooMany, IsFilled};
 ghost use Rattle.ddpsh.specs.Script.{ends_well};
 ghost use Rattle.ddpsh.specs.Reading.{IsPayload};
 
@@ -22,6 +22,10 @@ fn read_whole<S: Source>(
     ensures grows { taken input.old ≤ taken input.new }
     ensures over { (total : ℕ) (s : List ℕ) → IsLeft input.old (S.left script.old) total s →
         IsErrOf result ScriptFault.TooLong → MOST_SCRIPT < total }
+    ensures given { (first : ℕ) → HasGiven first input.old.came (S.given script.old) →
+        OnOk result (HasGiven first input.new.came (S.given script.new)) }
+    ensures many { (first : ℕ) → HasGiven first input.old.came (S.given script.old) →
+        IsErrOf result ScriptFault.TooLong → GaveTooMany first (S.given script.new) }
     ensures later { S.faults script.old ≤ S.faults script.new }
     ensures failed { IsErrOf result ScriptFault.Failed → Rose (S.faults script.old) (S.faults script.new) }
 {
@@ -78,6 +82,10 @@ pub(crate) fn read_payload<S: Source>(
     ensures grows { taken input.old ≤ taken input.new }
     ensures over { (total : ℕ) (s : List ℕ) → IsLeft input.old (S.left script.old) total s →
         IsErrOf result ScriptFault.TooLong → MOST_SCRIPT < total }
+    ensures given { (first : ℕ) → HasGiven first input.old.came (S.given script.old) →
+        OnOk result (HasGiven first input.new.came (S.given script.new)) }
+    ensures many { (first : ℕ) → HasGiven first input.old.came (S.given script.old) →
+        IsErrOf result ScriptFault.TooLong → GaveTooMany first (S.given script.new) }
     ensures later { S.faults script.old ≤ S.faults script.new }
     ensures failed { IsErrOf result ScriptFault.Failed → Rose (S.faults script.old) (S.faults script.new) }
 {

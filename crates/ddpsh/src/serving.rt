@@ -4,7 +4,8 @@ ghost use Rattle.std.specs.Prelude.{IfOk, OnOk, IsErrOf, vec_capacity};
 ghost use Rattle.vdisk.specs.Causes.{Rose};
 ghost use Rattle.cmdlet_line.specs.Lines.{line_of};
 ghost use Rattle.ddpsh.specs.declared.limits.TheConstants.{MOST_SCRIPT, MOST_KEPT};
-ghost use Rattle.ddpsh.specs.Input.{ahead};
+ghost use Rattle.ddpsh.specs.Input.{ahead, GaveTooMany};
+ghost use Rattle.ddpsh.specs.Clocks.{ReadsClock, ReadsOften, MayCut};
 ghost use Rattle.ddpsh.specs.Script.{item_of, volume_text};
 ghost use Rattle.volume_core.specs.Volumes.{disk_of, view_now, stopped, IsKept};
 ghost use Rattle.ddpsh.specs.Served.{StaysSame};
@@ -113,6 +114,9 @@ fn serve_line<K: Sink, D: Disk, C: Clock>(
     requires { is_over session.old ≡ false }
     ensures told { (w : PlainVolume) → IsKept session.old.volume w →
         DoesStep (item_of (line_of session.old.text line.now) payload.now) session.old session.new (K.held out.old) (K.held out.new) result acks.old.items acks.new.items }
+    ensures read { ReadsClock (line_of session.old.text line.now) (C.answers clock.old) (C.answers clock.new)
+        session.old.second session.new.second result
+        ⊎ (IsErrOf result SessionFault.Memory × (C.answers clock.new ≡ C.answers clock.old)) }
     ensures text { session.new.text ≡ session.old.text }
     ensures same { StaysSame session.old.volume session.new.volume }
     ensures runs { IfOk result (λ a. is_over session.new ≡ is_last a) }
@@ -166,6 +170,9 @@ pub(crate) fn serve<S: Source, K: Sink, D: Disk, C: Clock>(
     ensures run { IsKept session.old.volume (view_now session.old.volume) → (s : List ℕ) →
         S.left script.old ≡ Some s → SessionRun session.old session.new s (K.held out.old) (K.held out.new) result.0
         result.1.items }
+    ensures clock { IsKept session.old.volume (view_now session.old.volume) → (s : List ℕ) →
+        S.left script.old ≡ Some s →
+        ReadsOften result.0.lines (MayCut result.0.end) (C.answers clock.old) (C.answers clock.new) }
     ensures same { StaysSame session.old.volume session.new.volume }
     ensures disk_later { (disk_of session.old.volume).faults ≤ (disk_of session.new.volume).faults }
     ensures clock_later { C.faults clock.old ≤ C.faults clock.new }
@@ -177,6 +184,7 @@ pub(crate) fn serve<S: Source, K: Sink, D: Disk, C: Clock>(
     ensures sink { result.0.end ≡ End.Sink → Rose (K.faults out.old) (K.faults out.new) }
     ensures source { result.0.end ≡ End.Source → Rose (S.faults script.old) (S.faults script.new) }
     ensures too_long { (s : List ℕ) → S.left script.old ≡ Some s → result.0.end ≡ End.TooLong → MOST_SCRIPT < length s }
+    ensures many { result.0.end ≡ End.TooLong → GaveTooMany (S.given script.old) (S.given script.new) }
     ensures opened { (fault : MountFault) → result.0.end ≡ End.Refused fault → ⊥ }
 {
     wants_are_spent(session);

@@ -1,14 +1,14 @@
 // A session: lines served one by one over a mounted volume.
-ghost use Rattle.std.specs.Prelude.{◌≡◌, ◌≤◌, ◌⊎◌, false, true, ℕ, None, Some, Result, IfOk, OnOk, IsErrOf, IsTrue, IsOk};
+ghost use Rattle.std.specs.Prelude.{◌≡◌, ◌≤◌, ◌⊎◌, false, true, None, Some, Ok, is_some, IfOk, OnOk, IsErrOf, IsTrue, IsOk};
 ghost use Rattle.vdisk.specs.Causes.{Rose, HasCause};
-ghost use Rattle.vdisk.specs.declared.disk.Failed.{Failed};
 ghost use Rattle.cmdlet_line.specs.Lines.{line_of};
 ghost use Rattle.ddpsh.specs.Script.{item_of};
 ghost use Rattle.plain_volume.specs.Volume.{Volume as PlainVolume};
 ghost use Rattle.volume_core.specs.Volumes.{device_of, disk_of, stopped, IsKept};
 ghost use Rattle.ddpsh.specs.Bounds.{WantsAreSpent};
 ghost use Rattle.ddpsh.specs.Served.{asked_as, StaysSame};
-ghost use Rattle.ddpsh.specs.Clocks.{IsRead};
+ghost use Rattle.ddpsh.specs.Answers.{makes_none, may_stop};
+ghost use Rattle.ddpsh.specs.Clocks.{IsRead, KeepsSecond, ReadsClock};
 ghost use Rattle.ddpsh.specs.Saying.{is_flushed, ended_by};
 
 use crate::acks::Ack;
@@ -46,6 +46,7 @@ fn read_clock<C: Clock>(
     second: u64,
 ) -> Result<u64, Failed>
     ensures read { IsRead (asked_as asked.entry) (C.answers clock.old) (C.answers clock.new) result }
+    ensures kept { IfOk result (λ now. KeepsSecond (asked_as asked.entry) (Ok now) second now) }
     ensures cause { HasCause (C.faults clock.old) (C.faults clock.new) result }
 {
     match asked {
@@ -173,8 +174,12 @@ impl<D: Disk> Session<D> {
         ensures told { (w : PlainVolume) → IsKept self.old.volume w →
             HasCome (item_of (asked_as asked.entry) payload.now) self.old self.new result text.new.items }
         ensures rest { IsSameBeside self.old self.new }
-        ensures read { (second : Result ℕ Failed)
-            × IsRead (asked_as asked.entry) (C.answers clock.old) (C.answers clock.new) second }
+        ensures idle { makes_none (item_of (asked_as asked.entry) payload.now) ≡ true →
+            HasCome (item_of (asked_as asked.entry) payload.now) self.old self.new result text.new.items }
+        ensures stays { may_stop (item_of (asked_as asked.entry) payload.now) ≡ false →
+            stopped self.new.volume ≡ false }
+        ensures read { ReadsClock (asked_as asked.entry) (C.answers clock.old) (C.answers clock.new) self.old.second
+            self.new.second result }
         ensures same { StaysSame self.old.volume self.new.volume }
         ensures runs { OnOk result (stopped self.new.volume ≡ false) }
         ensures disk_later { (disk_of self.old.volume).faults ≤ (disk_of self.new.volume).faults }
@@ -207,9 +212,16 @@ impl<D: Disk> Session<D> {
     ) -> Result<Answered, SessionFault>
         requires { is_over self.old ≡ false }
         ensures told { (w : PlainVolume) → IsKept self.old.volume w →
-            DoesLine (item_of (line_of self.old.text line.now) payload.now) self.old self.new (K.held out.old) (K.held out.new) result }
-        ensures read { (second : Result ℕ Failed) × IsRead (line_of self.old.text line.now) (C.answers clock.old)
-            (C.answers clock.new) second }
+            DoesLine (item_of (line_of self.old.text line.now) payload.now) self.old self.new (K.held out.old)
+            (K.held out.new) result }
+        ensures idle { makes_none (item_of (line_of self.old.text line.now) payload.now) ≡ true →
+            DoesLine (item_of (line_of self.old.text line.now) payload.now) self.old self.new (K.held out.old)
+            (K.held out.new) result }
+        ensures read { ReadsClock (line_of self.old.text line.now) (C.answers clock.old) (C.answers clock.new)
+            self.old.second self.new.second result }
+        ensures let_go { IsErrOf result SessionFault.Sink → is_over self.new ≡ is_some self.new.ack }
+        ensures stays { may_stop (item_of (line_of self.old.text line.now) payload.now) ≡ false →
+            IsErrOf result SessionFault.Device → is_over self.new ≡ false }
         ensures text { self.new.text ≡ self.old.text }
         ensures same { StaysSame self.old.volume self.new.volume }
         ensures runs { IfOk result (λ a. is_over self.new ≡ is_last a) }
@@ -254,6 +266,7 @@ impl<D: Disk> Session<D> {
         requires { is_over self.old ≡ false }
         ensures told { (w : PlainVolume) → IsKept self.old.volume w → DoesEnd self.old self.new result }
         ensures over { self.new.over ≡ true }
+        ensures second { self.new.second ≡ self.old.second }
         ensures same { StaysSame self.old.volume self.new.volume }
         ensures disk_later { (disk_of self.old.volume).faults ≤ (disk_of self.new.volume).faults }
         ensures device { IsErrOf result SessionFault.Device →

@@ -5,8 +5,10 @@ ghost use Rattle.volume_inside.specs.declared.mount_fault.MountFault.{MountFault
 ghost use Rattle.ddpsh.specs.declared.commands.Command.{Command};
 ghost use Rattle.ddpsh.specs.declared.limits.TheConstants.{MOST_SCRIPT};
 ghost use Rattle.ddpsh.specs.Answers.{Refused, text_of};
+ghost use Rattle.ddpsh.specs.Clocks.{ReadsOften, IsCutStatus};
 ghost use Rattle.ddpsh.specs.Commands.{Asks, IsInRange, usage};
 ghost use Rattle.ddpsh.specs.Complete.{CanOpen, DidNotRise, IsComplete};
+ghost use Rattle.ddpsh.specs.Input.{GaveTooMany};
 ghost use Rattle.ddpsh.specs.Opens.{IsRefusal, is_reason};
 ghost use Rattle.ddpsh.specs.Outcomes.{last_line, mount_text};
 ghost use Rattle.ddpsh.specs.Told.{IsPrinted};
@@ -104,6 +106,8 @@ fn serve_script<S: Source, K: Sink, D: Disk, C: Clock>(
     ensures run { IsKept volume (view_now volume) → (s : List ℕ) →
         S.left script.old ≡ Some s → IsServedRun volume (D.state result.0) s (K.held out.old) (K.held out.new)
         (K.faults out.old) (K.faults out.new) result.1 }
+    ensures clock { IsKept volume (view_now volume) → (s : List ℕ) → S.left script.old ≡ Some s →
+        ReadsOften result.1.lines (IsCutStatus result.1.status) (C.answers clock.old) (C.answers clock.new) }
     ensures ended { HasEnded (K.held out.new) (K.faults out.old) (K.faults out.new) result.1 }
     ensures same { (x : D) → D.is_same x (device_of volume) → D.is_same x result.0 }
     ensures status { IsServedStatus result.1.status }
@@ -112,7 +116,8 @@ fn serve_script<S: Source, K: Sink, D: Disk, C: Clock>(
         ⊎ Rose (C.faults clock.old) (C.faults clock.new) }
     ensures sink { result.1.status ≡ 6 → Rose (K.faults out.old) (K.faults out.new) }
     ensures source { result.1.status ≡ 7 → Rose (S.faults script.old) (S.faults script.new)
-        ⊎ ((s : List ℕ) → S.left script.old ≡ Some s → MOST_SCRIPT < length s) }
+        ⊎ (GaveTooMany (S.given script.old) (S.given script.new)
+        × ((s : List ℕ) → S.left script.old ≡ Some s → MOST_SCRIPT < length s)) }
 {
     let opened = volume.moment();
     let mut session = Session::new(volume, VOLUME, 0, 1);
@@ -140,6 +145,8 @@ fn run_over<S: Source, K: Sink, D: Disk, C: Clock>(
     ensures run { IsTrue (D.state disk).tells → (s : List ℕ) → S.left script.old ≡ Some s →
         IsRun command (D.state disk) (D.state result.0) s (K.held out.old) (K.held out.new) (K.faults out.old)
         (K.faults out.new) result.1 }
+    ensures clock { IsTrue (D.state disk).tells → (s : List ℕ) → S.left script.old ≡ Some s →
+        ReadsOften result.1.lines (IsCutStatus result.1.status) (C.answers clock.old) (C.answers clock.new) }
     ensures ended { HasEnded (K.held out.new) (K.faults out.old) (K.faults out.new) result.1 }
     ensures same { D.is_same disk result.0 }
     ensures words { result.1.status ≡ 2 → ⊥ }
@@ -151,7 +158,8 @@ fn run_over<S: Source, K: Sink, D: Disk, C: Clock>(
         ⊎ Rose (C.faults clock.old) (C.faults clock.new) }
     ensures sink { result.1.status ≡ 6 → Rose (K.faults out.old) (K.faults out.new) }
     ensures source { result.1.status ≡ 7 → Rose (S.faults script.old) (S.faults script.new)
-        ⊎ ((s : List ℕ) → S.left script.old ≡ Some s → MOST_SCRIPT < length s) }
+        ⊎ (GaveTooMany (S.given script.old) (S.given script.new)
+        × ((s : List ℕ) → S.left script.old ≡ Some s → MOST_SCRIPT < length s)) }
 {
     match open(alloc, command, disk) {
         Ok(volume) => serve_script(alloc, volume, script, out, clock),
@@ -173,6 +181,8 @@ pub fn run<S: Source, K: Sink, D: Disk, C: Clock>(
     ensures run { (command : Command) → Asks words.now command → IsTrue (D.state disk.old).tells → (s : List ℕ) →
         S.left script.old ≡ Some s → IsRun command (D.state disk.old) (D.state disk.new) s (K.held out.old)
         (K.held out.new) (K.faults out.old) (K.faults out.new) result }
+    ensures clock { IsTrue (D.state disk.old).tells → (s : List ℕ) → S.left script.old ≡ Some s →
+        ReadsOften result.lines (IsCutStatus result.status) (C.answers clock.old) (C.answers clock.new) }
     ensures words { (result.status ≡ 2) ↔ ((command : Command) → Asks words.now command → ⊥) }
     ensures usage { result.status ≡ 2 →
         IsPrinted (K.held out.old) (K.faults out.old) usage (K.held out.new) (K.faults out.new) }
@@ -187,7 +197,8 @@ pub fn run<S: Source, K: Sink, D: Disk, C: Clock>(
         ⊎ Rose (C.faults clock.old) (C.faults clock.new) }
     ensures sink { result.status ≡ 6 → Rose (K.faults out.old) (K.faults out.new) }
     ensures source { result.status ≡ 7 → Rose (S.faults script.old) (S.faults script.new)
-        ⊎ ((s : List ℕ) → S.left script.old ≡ Some s → MOST_SCRIPT < length s) }
+        ⊎ (GaveTooMany (S.given script.old) (S.given script.new)
+        × ((s : List ℕ) → S.left script.old ≡ Some s → MOST_SCRIPT < length s)) }
     ensures complete { (command : Command) → Asks words.now command → CanOpen command (D.state disk.old) →
         DidNotRise (D.state disk.old).faults (D.state disk.new).faults →
         DidNotRise (C.faults clock.old) (C.faults clock.new) → DidNotRise (K.faults out.old) (K.faults out.new) →

@@ -13,7 +13,7 @@ use Rattle.byte_map.specs.Words.{Map, bytes_cmp, bytes_in}
 use Rattle.meta_log.specs.Records.{Record, Put, pairs_of, ascending}
 use Rattle.meta_log.specs.Spelled.{Fits, bytes_of, records_back, length_text}
 use Rattle.meta_log.specs.Short.{are_short, short_parts}
-use Rattle.meta_log.specs.Meta.{digest_of, and_then, where_digest, groups_from, is_epoch, epoch_of, body_length, body_of, checkpoint_map, checkpoint_at, map_of_half}
+use Rattle.meta_log.specs.Meta.{digest_of, and_then, where_digest, groups_from, groups_length, groups_end, is_epoch, epoch_of, body_length, body_of, checkpoint_map, checkpoint_at, map_of_half}
 use Rattle.meta_log.specs.Ready.{GoesOn}
 use Rattle.meta_log.proofs.Groups.{length_digest, same_bytes}
 use Rattle.meta_log.specs.Checkpoint.{puts, body_text, checkpoint_text, IsCheckpoint}
@@ -115,6 +115,13 @@ module _ (epoch : ℕ) (m : Map) (begun : 0 < epoch) (early : epoch < 2 ^ 63) (f
       ∙ ap (λ (o : Option Map). and_then o (λ n. groups_from 0 n (drop (45 + body_length h) h))) (checkpoint_is g rest)
       ∙ ap (λ (l : List ℕ). groups_from 0 m l) (rest_is g rest)
 
+  pub half_ends : (g : ℕ) (rest : List ℕ) → groups_end (g ∷ text rest) ≡ 45 + length (body_text m) + groups_length 0 rest
+  half_ends g rest =
+      let h = g ∷ text rest in
+      let long = length_is g rest in
+      let behind = ap (λ (l : List ℕ). groups_length 0 l) (rest_is g rest) in
+      omega (arith, long, behind)
+
   -- a half of that text, and what stands behind it
   pub laid : (half : List ℕ) → part 1 (44 + length (body_text m)) half ≡ checkpoint_text epoch m → 45 + length (body_text m) ≤ length half
       → half ≡ get_or half 0 0 ∷ text (drop (45 + length (body_text m)) half)
@@ -140,11 +147,16 @@ module _ (epoch : ℕ) (m : Map) (begun : 0 < epoch) (early : epoch < 2 ^ 63) (f
   checkpoint_goes_on half is =
       let n = 44 + length (body_text m) in
       let whole : 1 + n ≡ 45 + length (body_text m) = omega arith in
+      let laid_there : (s : List ℕ) → length s ≡ length half → take (45 + length (body_text m)) s ≡ take (45 + length (body_text m)) half
+      → s ≡ get_or s 0 0 ∷ text (drop (45 + length (body_text m)) s) = λ s same_size head.
+      let front : (l : List ℕ) → part 1 n l ≡ drop 1 (take (45 + length (body_text m)) l) = λ l. sym (drop-take 1 n l) ∙ ap (λ (k : ℕ). drop 1 (take k l)) whole in
+      let there : part 1 n s ≡ checkpoint_text epoch m = front s ∙ ap (λ (l : List ℕ). drop 1 l) head ∙ sym (front half) ∙ is.text in
+      laid s there (omega (arith, is.within, same_size)) in
       record {
         spells = λ s same_size head.
-            let front : (l : List ℕ) → part 1 n l ≡ drop 1 (take (45 + length (body_text m)) l) = λ l. sym (drop-take 1 n l) ∙ ap (λ (k : ℕ). drop 1 (take k l)) whole in
-            let there : part 1 n s ≡ checkpoint_text epoch m = front s ∙ ap (λ (l : List ℕ). drop 1 l) head ∙ sym (front half) ∙ is.text in
-            ap (λ (l : List ℕ). map_of_half l) (laid s there (omega (arith, is.within, same_size))) ∙ half_spells (get_or s 0 0) (drop (45 + length (body_text m)) s);
+            ap (λ (l : List ℕ). map_of_half l) (laid_there s same_size head) ∙ half_spells (get_or s 0 0) (drop (45 + length (body_text m)) s);
+        ends = λ s same_size head.
+            ap (λ (l : List ℕ). groups_end l) (laid_there s same_size head) ∙ half_ends (get_or s 0 0) (drop (45 + length (body_text m)) s);
         closed = is.closed;
         within = is.within;
         behind = omega arith;

@@ -2,7 +2,7 @@
 use Rattle.std.proofs.Common.{◌≡◌, ◌≢◌, ◌⊎◌, inl, inr, ℕ, zero, suc, Bool, true, false, ◌+◌, ◌≤◌, ◌<◌, ◌^◌, List, [], ◌∷◌, ◌++◌, length, get_or, take, drop, nat_eq, nat_lt, refl, sym, ◌∙◌, ap, arith, append_assoc, length-append, length-take, take-append-drop}
 use Rattle.std.specs.Prelude.{◌&&◌, if◌then◌else◌, Some, None, Option}
 use Rattle.std.specs.Cmp.Lexicographic.{pointwise}
-use Rattle.std.proofs.lemmas.Bool.{eq-eqb, le-ltb, cases_lt}
+use Rattle.std.proofs.lemmas.Bool.{eq-eqb, ne_eqb, le-ltb, cases_lt}
 use Rattle.std.proofs.lemmas.Bool.Decides.{eqb_tells}
 use Rattle.std.proofs.lemmas.List.{take_at, drop_at, drop-drop, drop-take, drop_more, drop_all, drop-append-le, append-nil, get_or-take, get_or-drop}
 use Rattle.byteorder.specs.Endian.{big_bytes, big_number}
@@ -12,7 +12,7 @@ use Rattle.vdisk.specs.Ranges.{part, same_front}
 use Rattle.sha2.proofs.Facts256.{length-sha256}
 use Rattle.byte_map.specs.Words.{Map}
 use Rattle.meta_log.specs.Records.{Record, records_of, changes}
-use Rattle.meta_log.specs.Meta.{digest_of, and_then, where_digest, group_length, group_body, group_at, groups_from, map_of_half}
+use Rattle.meta_log.specs.Meta.{digest_of, and_then, where_digest, group_length, group_body, group_at, groups_from, groups_length, groups_end, map_of_half}
 use Rattle.meta_log.specs.Group.{group_text}
 use Rattle.meta_log.specs.Ready.{GoesOn}
 
@@ -37,6 +37,21 @@ shut_at place s m shut = elim (cases_lt place (length s)) [
   | inl within ↦ ap (λ (q : List ℕ). groups_from 0 m q) (drop_more s place 0 within) ∙ closed (get_or s place 0) m (drop (place + 1) s) shut
   | inr past ↦ ap (λ (q : List ℕ). groups_from 0 m q) (drop_all place s past)
 ]
+
+-- there no group stands
+pub no_groups : (place : ℕ) (s : List ℕ) → get_or s place 0 ≢ 1 → groups_length 0 (drop place s) ≡ 0
+no_groups place s shut = elim (cases_lt place (length s)) [
+  | inl within ↦
+      ap (λ (q : List ℕ). groups_length 0 q) (drop_more s place 0 within)
+      ∙ ap (λ (t : Bool). if t then suc (groups_length (36 + group_length (drop (place + 1) s)) (drop (place + 1) s)) else 0) (ne_eqb (get_or s place 0) 1 shut)
+  | inr past ↦ ap (λ (q : List ℕ). groups_length 0 q) (drop_all place s past)
+]
+
+-- bytes that are passed over count
+pub length_skip : (n : ℕ) (bytes : List ℕ) → n ≤ length bytes → groups_length n bytes ≡ n + groups_length 0 (drop n bytes)
+length_skip zero bytes low = omega arith
+length_skip (suc n) [] low = absurd (omega (arith, low))
+length_skip (suc n) (b ∷ bytes) low = let behind = length_skip n bytes (omega (arith, low)) in omega (arith, behind)
 
 skip : (n : ℕ) (m : Map) (xs rest : List ℕ) → length xs ≡ n → groups_from n m (xs ++ rest) ≡ groups_from 0 m rest
 skip zero m [] rest e = refl
@@ -83,6 +98,20 @@ module _ (head dig body : List ℕ) (four : length head ≡ 4) (counts : big_num
       ∙ ap (λ (l : List ℕ). groups_from (36 + length body) (changes rs m) l) (sym (append_assoc head (dig ++ body) rest ∙ ap (λ (l : List ℕ). head ++ l) (append_assoc dig body rest)))
       ∙ skip (36 + length body) (changes rs m) (head ++ (dig ++ body)) rest (omega (arith, four, size, length-append head (dig ++ body), length-append dig body))
 
+  -- its bytes, the gate's with them, and those of the groups behind it
+  length_laid : (rest : List ℕ) → groups_length 0 (1 ∷ laid rest) ≡ 37 + length body + groups_length 0 rest
+  length_laid rest =
+      let k = 36 + length body in
+      let front : List ℕ = head ++ (dig ++ body) in
+      let long_front : length front ≡ k = omega (arith, four, size, length-append head (dig ++ body), length-append dig body) in
+      let together : laid rest ≡ front ++ rest = sym (append_assoc head (dig ++ body) rest ∙ ap (λ (l : List ℕ). head ++ l) (append_assoc dig body rest)) in
+      let behind : drop k (laid rest) ≡ rest = ap (λ (l : List ℕ). drop k l) together ∙ drop_at front rest k long_front in
+      let passed : groups_length k (laid rest) ≡ k + groups_length 0 (drop k (laid rest)) = length_skip k (laid rest) (omega (arith, long rest)) in
+      let all : groups_length 0 (1 ∷ laid rest) ≡ suc (k + groups_length 0 rest) =
+      ap (λ (j : ℕ). suc (groups_length (36 + j) (laid rest))) (count_is rest)
+      ∙ ap (λ (j : ℕ). suc j) (passed ∙ ap (λ (l : List ℕ). k + groups_length 0 l) behind) in
+      omega (arith, all)
+
 pub length_group : (body : List ℕ) → length (group_text body) ≡ 36 + length body
 unfolding group_text
 length_group body = omega (
@@ -103,10 +132,23 @@ opened body m rs rest short reads =
     ap (λ (q : List ℕ). groups_from 0 m (1 ∷ q)) (append_assoc head (dig ++ body) rest ∙ ap (λ (q : List ℕ). head ++ q) (append_assoc dig body rest))
     ∙ opened_laid head dig body (length-bytes_high_first 4 (length body)) counts (length_digest (head ++ body)) refl m rs rest reads
 
+pub opened_length : (body rest : List ℕ) → length body < 2 ^ 32
+    → groups_length 0 (1 ∷ (group_text body ++ rest)) ≡ 37 + length body + groups_length 0 rest
+unfolding group_text
+opened_length body rest short =
+    let head = big_bytes 4 (length body) in
+    let dig = digest_of (head ++ body) in
+    let counts : big_number 4 head ≡ length body = ap (λ (q : List ℕ). big_number 4 q) (sym (append-nil head)) ∙ big_number-reads_back 4 (length body) [] short in
+    ap (λ (q : List ℕ). groups_length 0 (1 ∷ q)) (append_assoc head (dig ++ body) rest ∙ ap (λ (q : List ℕ). head ++ q) (append_assoc dig body rest))
+    ∙ length_laid head dig body (length-bytes_high_first 4 (length body)) counts (length_digest (head ++ body)) refl rest
+
 -- ---- a half whose groups end at a closed gate, or at its end
 
 pub half_spells : (place : ℕ) (half : List ℕ) (m : Map) → GoesOn place half m → map_of_half half ≡ Some m
 half_spells place half m goes = goes.spells half refl refl ∙ shut_at place half m goes.closed
+
+pub half_ends : (place : ℕ) (half : List ℕ) (m : Map) → GoesOn place half m → groups_end half ≡ place
+half_ends place half m goes = let none = no_groups place half goes.closed in let ends = goes.ends half refl refl in omega (arith, none, ends)
 
 -- bytes behind the closed gate are not read
 pub torn_behind : (place n : ℕ) (r s : List ℕ) (m : Map) → GoesOn place r m → ChangedWithin (place + 1) n r s → map_of_half s ≡ Some m
@@ -155,14 +197,18 @@ module _ (place : ℕ) (r r₁ body : List ℕ) (rs : List Record) (m : Map) (n 
       ∙ ap (λ (q : List ℕ). take (37 + length body) q) (tail_is s gate ∙ ap (λ (g : ℕ). g ∷ (group_text body ++ drop next r₁)) is_open)
       ∙ (let more : 37 + length body ≡ suc k = omega arith in ap (λ (j : ℕ). take j (1 ∷ (group_text body ++ drop next r₁))) more)
       ∙ ap (λ (q : List ℕ). 1 ∷ q) (take_at (group_text body) (drop next r₁) k (length_group body)) in
+      let tail_of : (t : List ℕ) → length t ≡ length s → take next t ≡ take next s → drop place t ≡ 1 ∷ (group_text body ++ drop next t) = λ t same_size same_head.
+      ap (λ (q : List ℕ). drop place q) (sym (take-append-drop next t))
+      ∙ drop-append-le place (take next t) (drop next t) (omega (arith, length-take next t, same_size, gate.size, change.size, fits))
+      ∙ ap (λ (q : List ℕ). q ++ drop next t) (ap (λ (q : List ℕ). drop place q) same_head ∙ group) in
       record {
         spells = λ t same_size same_head.
-            let tail : drop place t ≡ 1 ∷ (group_text body ++ drop next t) =
-            ap (λ (q : List ℕ). drop place q) (sym (take-append-drop next t))
-            ∙ drop-append-le place (take next t) (drop next t) (omega (arith, length-take next t, same_size, gate.size, change.size, fits))
-            ∙ ap (λ (q : List ℕ). q ++ drop next t) (ap (λ (q : List ℕ). drop place q) same_head ∙ group) in
             goes.spells t (same_size ∙ gate.size ∙ change.size) (same_front place next s t (omega arith) same_head ∙ front_is s gate)
-            ∙ ap (λ (q : List ℕ). groups_from 0 m q) tail ∙ opened body m rs (drop next t) short reads;
+            ∙ ap (λ (q : List ℕ). groups_from 0 m q) (tail_of t same_size same_head) ∙ opened body m rs (drop next t) short reads;
+        ends = λ t same_size same_head.
+            let before = goes.ends t (same_size ∙ gate.size ∙ change.size) (same_front place next s t (omega arith) same_head ∙ front_is s gate) in
+            let behind = ap (λ (q : List ℕ). groups_length 0 q) (tail_of t same_size same_head) ∙ opened_length body (drop next t) short in
+            omega (arith, before, behind);
         closed = λ is.
             let place_is : place + 1 + k ≡ next = omega arith in
             let there : (q : List ℕ) → get_or (drop (place + 1) q) k 0 ≡ get_or q next 0 = λ q. get_or-drop (place + 1) q k 0 ∙ ap (λ (j : ℕ). get_or q j 0) place_is in

@@ -2,6 +2,7 @@ pub mod Groups
 pub mod Lives
 pub mod Appending
 pub mod Staged
+pub mod Spends
 pub mod Clients
 mod Streams
 mod Checkpoints

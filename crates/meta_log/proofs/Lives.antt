@@ -8,9 +8,9 @@ use Rattle.byteorder.specs.Numbers.{big_from-take}
 use Rattle.vdisk.specs.Disk.{DiskState, ChangedWithin, Follows}
 use Rattle.vdisk.specs.Ranges.{part, part_part, part_apart, same_front}
 use Rattle.byte_map.specs.Words.{Map}
-use Rattle.meta_log.specs.Meta.{is_open, epoch_of, live_of, map_of_live, or_damaged, map_of_half, meta_of}
-use Rattle.meta_log.specs.Ready.{Layout, AreHalves, GoesOn, IsLive, Stands}
-use Rattle.meta_log.proofs.Groups.{half_spells}
+use Rattle.meta_log.specs.Meta.{is_open, epoch_of, groups_end, live_of, live_one, live_half, map_of_live, or_damaged, map_of_half, meta_of}
+use Rattle.meta_log.specs.Ready.{Layout, AreHalves, GoesOn, GoesOnFrom, IsLive, Stands}
+use Rattle.meta_log.proofs.Groups.{half_spells, half_ends}
 
 -- ---- parts of the two halves
 
@@ -51,6 +51,13 @@ meta_same at half x y same =
     let first : part at half x ≡ part at half y = part_inside at (2 * half) at half x y (omega arith) (omega arith) same in
     let second : part (at + half) half x ≡ part (at + half) half y = part_inside at (2 * half) (at + half) half x y (omega arith) (omega arith) same in
     λ i. map_of_live (live_of (first i) (second i)) (first i) (second i)
+
+-- and so they have the same live half
+pub live_same : (at half : ℕ) (x y : List ℕ) → part at (2 * half) x ≡ part at (2 * half) y → live_half at half x ≡ live_half at half y
+live_same at half x y same =
+    let first : part at half x ≡ part at half y = part_inside at (2 * half) at half x y (omega arith) (omega arith) same in
+    let second : part (at + half) half x ≡ part (at + half) half y = part_inside at (2 * half) (at + half) half x y (omega arith) (omega arith) same in
+    λ i. live_one (live_of (first i) (second i)) (first i) (second i)
 
 -- ---- which half is live
 
@@ -106,6 +113,30 @@ second_lives epoch other_open f s live =
           ∙ ap (λ (t : Bool). pick (is_open f) true false t) (lt-ltb (epoch_of f) (epoch_of s) (omega (arith, below.1, live.counts)))
           ∙ pick_second (is_open f)
     ]
+
+-- the live half's bytes, whichever of the two that is
+pub live_bytes : (at half live_at other_at epoch : ℕ) (other_open : Bool) (c : List ℕ) → AreHalves at half live_at other_at
+    → IsLive epoch other_open (part live_at half c) (part other_at half c) → live_half at half c ≡ part live_at half c
+live_bytes at half live_at other_at epoch other_open c (inl is) live =
+    let f : part live_at half c ≡ part at half c = ap (λ (k : ℕ). part k half c) is.0 in
+    let s : part other_at half c ≡ part (at + half) half c = ap (λ (k : ℕ). part k half c) is.1 in
+    let here : IsLive epoch other_open (part at half c) (part (at + half) half c) = subst (λ (q : List ℕ). IsLive epoch other_open (part at half c) q) s (subst (λ (q : List ℕ). IsLive epoch other_open q (part other_at half c)) f live) in
+    ap (λ (o : Option ℕ). live_one o (part at half c) (part (at + half) half c)) (first_lives epoch other_open (part at half c) (part (at + half) half c) here) ∙ sym f
+live_bytes at half live_at other_at epoch other_open c (inr is) live =
+    let s : part live_at half c ≡ part (at + half) half c = ap (λ (k : ℕ). part k half c) is.0 in
+    let f : part other_at half c ≡ part at half c = ap (λ (k : ℕ). part k half c) is.1 in
+    let here : IsLive epoch other_open (part (at + half) half c) (part at half c) = subst (λ (q : List ℕ). IsLive epoch other_open (part (at + half) half c) q) f (subst (λ (q : List ℕ). IsLive epoch other_open q (part other_at half c)) s live) in
+    ap (λ (o : Option ℕ). live_one o (part at half c) (part (at + half) half c)) (second_lives epoch other_open (part at half c) (part (at + half) half c) here) ∙ sym s
+
+-- so an image tells where its journal goes on
+pub live_goes_on : (at half live_at other_at place epoch : ℕ) (other_open : Bool) (c : List ℕ) (m : Map) → AreHalves at half live_at other_at
+    → IsLive epoch other_open (part live_at half c) (part other_at half c) → GoesOn place (part live_at half c) m → GoesOnFrom at half place epoch c
+live_goes_on at half live_at other_at place epoch other_open c m halves live goes =
+    let same = live_bytes at half live_at other_at epoch other_open c halves live in
+    record {
+      next = sym (ap (λ (q : List ℕ). groups_end q) same ∙ half_ends place (part live_at half c) m goes);
+      counts = sym (ap (λ (q : List ℕ). epoch_of q) same ∙ live.counts);
+    }
 
 -- an image spells what its live half does, whichever of the two that is
 pub live_spells : (at half live_at other_at epoch : ℕ) (other_open : Bool) (c : List ℕ) (m : Map) → AreHalves at half live_at other_at
@@ -165,6 +196,18 @@ module _ (l : Layout) (s₀ : DiskState) (m : Map) (stands : Stands l s₀ m) wh
   -- each crash image spells the map
   pub stands_spells : (c : List ℕ) → s₀.may_leave c → meta_of l.at l.half c ≡ Ok m
   stands_spells c left = meta_same l.at l.half c s₀.image (stands.same c left).0 ∙ image_spells
+
+  -- and each tells where the journal goes on
+  pub image_goes_on : GoesOnFrom l.at l.half l.place l.epoch s₀.image
+  image_goes_on = live_goes_on l.at l.half l.live_at l.other_at l.place l.epoch l.other_open s₀.image m stands.halves stands.live stands.goes_on
+
+  pub stands_goes_on : (c : List ℕ) → s₀.may_leave c → GoesOnFrom l.at l.half l.place l.epoch c
+  stands_goes_on c left =
+      let same = live_same l.at l.half c s₀.image (stands.same c left).0 in
+      record {
+        next = image_goes_on.next ∙ sym (ap (λ (q : List ℕ). groups_end q) same);
+        counts = image_goes_on.counts ∙ sym (ap (λ (q : List ℕ). epoch_of q) same);
+      }
 
   -- a change outside the halves, whatever the disk answered
   pub stands_apart : (s₁ : DiskState) (a n : ℕ) → (l.at + 2 * l.half ≤ a) ⊎ (a + n ≤ l.at) → s₁.tells ≡ s₀.tells

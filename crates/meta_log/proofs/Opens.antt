@@ -8,12 +8,13 @@ use Rattle.vdisk.specs.Ranges.{part}
 use Rattle.vdisk.specs.Steps.{keeps_then, keeps_as, keeps_call, keeps_read}
 use Rattle.byte_map.specs.Words.{Map}
 use Rattle.meta_log.specs.Meta.{is_open, epoch_of, map_of_half, live_of, map_of_live, or_damaged, meta_of}
-use Rattle.meta_log.specs.Ready.{AreHalves, IsLive, GoesOn, Stands}
+use Rattle.meta_log.specs.Ready.{AreHalves, IsLive, GoesOn, GoesOnFrom, Stands}
 use Rattle.meta_log.specs.Opened.{IsOnlyRead, is_live, first_choice, second_choice, IsChoice, IsChosen, chosen_layout}
 use Rattle.meta_log.specs.declared.opening.Front.{Front}
 use Rattle.meta_log.specs.declared.opening.Choice.{Choice}
 use Rattle.meta_log.specs.declared.fault.MetaFault.TheVariants.{Damaged}
 use Rattle.meta_log.proofs.Groups.{half_spells}
+use Rattle.meta_log.proofs.Lives.{live_goes_on}
 use Rattle.meta_log.proofs.Fronts.{get_same, number_same}
 
 -- ---- syncs and reads
@@ -175,6 +176,14 @@ module _ (at half : ℕ) (image now : List ℕ) (same : now ≡ image) (choice :
   chosen_spells place m goes =
       is.spells ∙ ap (λ (o : Option Map). or_damaged choice.number o)
       (ap (λ (x : List ℕ). map_of_half (part choice.live_at half x)) (sym same) ∙ half_spells place (part choice.live_at half now) m goes)
+
+  pub chosen_goes_on : (place epoch : ℕ) (m : Map) → AreHalves at half choice.live_at choice.other_at → epoch ≡ epoch_of (part choice.live_at half now)
+      → GoesOn place (part choice.live_at half now) m → GoesOnFrom at half place epoch image
+  chosen_goes_on place epoch m halves counts goes =
+      let here : epoch_of (part choice.live_at half image) ≡ epoch = ap (λ (x : List ℕ). epoch_of (part choice.live_at half x)) (sym same) ∙ sym counts in
+      live_goes_on at half choice.live_at choice.other_at place epoch choice.other_open image m halves
+      (subst (λ (e : ℕ). IsLive e choice.other_open (part choice.live_at half image) (part choice.other_at half image)) here is.live)
+      (subst (λ (x : List ℕ). GoesOn place (part choice.live_at half x) m) same goes)
 
   pub chosen_damaged : (h : ℕ) → (h ≡ choice.number) × (map_of_half (part choice.live_at half now) ≡ None) → meta_of at half image ≡ Err h
   chosen_damaged h found =

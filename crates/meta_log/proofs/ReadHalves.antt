@@ -7,9 +7,10 @@ use Rattle.std.proofs.lemmas.List.{drop-drop, drop_more}
 use Rattle.vdisk.specs.Ranges.{part, same_front}
 use Rattle.byte_map.specs.Words.{Map}
 use Rattle.meta_log.specs.Records.{Record, changes, records_of}
-use Rattle.meta_log.specs.Meta.{and_then, where_digest, digest_of, group_length, group_body, group_at, groups_from, is_epoch, epoch_of, body_length, body_of, checkpoint_map, checkpoint_at, map_of_half}
+use Rattle.meta_log.specs.Meta.{and_then, where_digest, digest_of, group_length, group_body, group_at, groups_from, groups_length, groups_end, is_epoch, epoch_of, body_length, body_of, checkpoint_map, checkpoint_at, map_of_half}
 use Rattle.meta_log.specs.Ready.{GoesOn}
 use Rattle.meta_log.specs.Reading.{IsGroupOf, IsGroupTaken, IsCheckpointOf, IsReadTo, IsSpellable, records_bytes}
+use Rattle.meta_log.proofs.Groups.{length_skip}
 use Rattle.meta_log.proofs.Fronts.{part_same, get_same, number_same}
 
 -- ---- one group
@@ -141,12 +142,16 @@ module _ (half : List ℕ) (n : ℕ) (is : IsCheckpointOf half n) where
         ∙ ap (λ (o : Option Map). and_then o (λ q. groups_from 0 q (drop (45 + body_length s) s))) (checkpoint_same ∙ is.reads ∙ reads)
         ∙ ap (λ (k : ℕ). groups_from 0 m (drop (45 + k) s)) (length_same ∙ sym is.count)
 
+    ends_on : groups_end s ≡ 45 + n + groups_length 0 (drop (45 + n) s)
+    ends_on = ap (λ (k : ℕ). 45 + k + groups_length 0 (drop (45 + k) s)) (length_same ∙ sym is.count)
+
   pub read_checkpoint : (m : Map) → checkpoint_map (part 45 n half) ≡ Some m → IsSpellable m → records_bytes m ≤ length (part 45 n half)
       → IsReadTo (45 + n) half m
   read_checkpoint m reads spellable fits =
       let whole = length-take n (drop 45 half) in
       record {
         spells = λ s size same. spelled_on s size same m reads;
+        ends = λ s size same. ends_on s size same;
         within = is.whole;
         fits = omega (arith, fits, whole);
         spellable = spellable;
@@ -193,13 +198,28 @@ module _ (place : ℕ) (half : List ℕ) (m : Map) (so : IsReadTo place half m) 
             ∙ ap (λ (k : ℕ). groups_from k next y) number
             ∙ groups_skip n next y
             ∙ ap (λ (q : List ℕ). groups_from 0 next q) (drop-drop n (place + 1) s ∙ ap (λ (k : ℕ). drop k s) behind);
+        ends = λ s size same.
+            let y = drop (place + 1) s in
+            let gate_same : get_or s place 0 ≡ 1 = get_same (place + (1 + n)) place s half (omega arith) same ∙ gate in
+            let more : length y ≡ length bytes = omega (arith, length-drop (place + 1) s, long, size) in
+            let front : take n y ≡ take n bytes = part_same (place + (1 + n)) (place + 1) n s half (omega arith) same in
+            let number : 36 + group_length y ≡ n = ap (λ (k : ℕ). 36 + k) (count_same bytes y n count more front) ∙ sym count in
+            let here : groups_length 0 (drop place s) ≡ suc (groups_length n y) =
+            ap (λ (q : List ℕ). groups_length 0 q) (drop_more s place 0 (omega (arith, inside, size)) ∙ ap (λ (g : ℕ). g ∷ y) gate_same)
+            ∙ ap (λ (k : ℕ). suc (groups_length k y)) number in
+            let place_is : place + 1 + n ≡ place + (1 + n) = omega arith in
+            let behind : groups_length 0 (drop n y) ≡ groups_length 0 (drop (place + (1 + n)) s) =
+            ap (λ (q : List ℕ). groups_length 0 q) (drop-drop n (place + 1) s ∙ ap (λ (k : ℕ). drop k s) place_is) in
+            let passed = length_skip n y (omega (arith, is.within, more)) in
+            let before = so.ends s size (same_front place (place + (1 + n)) half s (omega arith) same) in
+            omega (arith, before, here, passed, behind);
         within = omega (arith, is.within, long, inside);
         fits = omega (arith, is.fits, so.fits);
         spellable = is.spellable;
       }
 
-pub groups_end : (place : ℕ) (half : List ℕ) (m : Map) → IsReadTo place half m → get_or half place 0 ≢ 1 → GoesOn place half m
-groups_end place half m so closed = record { spells = so.spells; closed = closed; within = so.within; behind = omega (arith, so.fits) }
+pub groups_done : (place : ℕ) (half : List ℕ) (m : Map) → IsReadTo place half m → get_or half place 0 ≢ 1 → GoesOn place half m
+groups_done place half m so closed = record { spells = so.spells; ends = so.ends; closed = closed; within = so.within; behind = omega (arith, so.fits) }
 
 -- ---- gates and epochs
 

@@ -39,6 +39,12 @@ groups_from zero m (gate ∷ bytes) =
     if gate == 1 then and_then (group_at bytes) (λ rs. groups_from (36 + group_length bytes) (changes rs m) bytes)
     else Some m
 
+-- how many bytes the groups have up to the first closed gate, or up to the end, after so many that are passed over
+abbrev pub groups_length : ℕ → List ℕ → ℕ
+groups_length skip [] = 0
+groups_length (suc skip) (b ∷ bytes) = suc (groups_length skip bytes)
+groups_length zero (gate ∷ bytes) = if gate == 1 then suc (groups_length (36 + group_length bytes) bytes) else 0
+
 -- A half begins with a checkpoint: gate [1], epoch [8], the length of the body [4], the digest of these two and the
 -- body [32], and the body.
 abbrev pub is_open : List ℕ → Bool
@@ -77,6 +83,10 @@ map_of_half half =
     then and_then (checkpoint_at half) (λ m. groups_from 0 m (drop (45 + body_length half) half))
     else None
 
+-- where the groups behind the checkpoint of a half end
+abbrev pub groups_end : List ℕ → ℕ
+groups_end half = 45 + body_length half + groups_length 0 (drop (45 + body_length half) half)
+
 -- the half with an open gate and the greater epoch, where there is one
 abbrev pub live_of : List ℕ → List ℕ → Option ℕ
 live_of first second =
@@ -101,3 +111,24 @@ meta_of at half image =
     let first = part at half image in
     let second = part (at + half) half image in
     map_of_live (live_of first second) first second
+
+-- the one of two halves that is live
+abbrev pub live_one : Option ℕ → List ℕ → List ℕ → List ℕ
+live_one None first second = []
+live_one (Some zero) first second = first
+live_one (Some (suc n)) first second = second
+
+-- the live half of an image, as bytes
+abbrev pub live_half : ℕ → ℕ → List ℕ → List ℕ
+live_half at half image =
+    let first = part at half image in
+    let second = part (at + half) half image in
+    live_one (live_of first second) first second
+
+-- where in the live half of an image the groups end
+abbrev pub place_in : ℕ → ℕ → List ℕ → ℕ
+place_in at half image = groups_end (live_half at half image)
+
+-- the epoch of the live half of an image
+abbrev pub epoch_in : ℕ → ℕ → List ℕ → ℕ
+epoch_in at half image = epoch_of (live_half at half image)

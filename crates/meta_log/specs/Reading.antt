@@ -6,7 +6,7 @@ use Rattle.byte_map.specs.Words.{Map, bytes_cmp, bytes_in}
 use Rattle.meta_log.specs.Records.{Record, Put, DropRange, change, changes, first_length, second_length, rest_length, record_at, records_of, pairs_of}
 use Rattle.meta_log.specs.Spelled.{Fits}
 use Rattle.meta_log.specs.Short.{are_short}
-use Rattle.meta_log.specs.Meta.{and_then, group_length, group_at, groups_from, is_epoch, epoch_of, body_length, checkpoint_at, checkpoint_map, map_of_half}
+use Rattle.meta_log.specs.Meta.{and_then, group_length, group_at, groups_from, groups_length, groups_end, is_epoch, epoch_of, body_length, checkpoint_at, checkpoint_map, map_of_half}
 use Rattle.meta_log.specs.declared.head.Effect.{Effect}
 use Rattle.meta_log.specs.declared.head.Effect.TheVariants.{Sets, Drops}
 use Rattle.meta_log.specs.declared.head.RecordHead.{RecordHead}
@@ -85,11 +85,13 @@ pub record IsCheckpointOf (half : List ℕ) (n : ℕ) : Type 0 where
   pub whole : 45 + n ≤ length half
   pub reads : checkpoint_at half ≡ checkpoint_map (part 45 n half)
 
--- A half was read up to a place: whatever stands from there on, the half's map is this one changed by the groups there.
--- A checkpoint of it takes no more bytes than were read.
+-- A half was read up to a place: whatever stands from there on, the half's map is this one changed by the groups there,
+-- and its groups end where those do. A checkpoint of it takes no more bytes than were read.
 pub record IsReadTo (place : ℕ) (half : List ℕ) (m : Map) : Type 0 where
   pub spells : (s : List ℕ) → length s ≡ length half → take place s ≡ take place half
       → map_of_half s ≡ groups_from 0 m (drop place s)
+  pub ends : (s : List ℕ) → length s ≡ length half → take place s ≡ take place half
+      → groups_end s ≡ place + groups_length 0 (drop place s)
   pub within : place ≤ length half
   pub fits : 45 + records_bytes m ≤ place
   pub spellable : IsSpellable m

@@ -3,7 +3,7 @@ use Rattle.std.specs.Prelude.{◌≡◌, ◌≢◌, ◌⊎◌, ◌<◌, ◌≤�
 use Rattle.vdisk.specs.Disk.{DiskState, ChangedWithin}
 use Rattle.vdisk.specs.Ranges.{part}
 use Rattle.byte_map.specs.Words.{Map}
-use Rattle.meta_log.specs.Meta.{map_of_half, groups_from, epoch_of, meta_of}
+use Rattle.meta_log.specs.Meta.{map_of_half, groups_from, groups_length, groups_end, epoch_of, epoch_in, place_in, meta_of}
 
 -- Where a journal stands on its disk: its two halves of so many bytes, one behind the other, which of them is live
 -- and where that one's next group goes; the live half's epoch; whether the other half's gate may be open.
@@ -21,10 +21,13 @@ abbrev pub AreHalves : ℕ → ℕ → ℕ → ℕ → Type 0
 AreHalves at half live_at other_at =
     ((live_at ≡ at) × (other_at ≡ at + half)) ⊎ ((live_at ≡ at + half) × (other_at ≡ at))
 
--- From a closed gate on, whatever stands in the half's free tail, its map is this one changed by the groups there.
+-- From a closed gate on, whatever stands in the half's free tail, its map is this one changed by the groups there, and
+-- its groups end where those do. So the groups of the half as it is end at the gate.
 pub record GoesOn (place : ℕ) (half : List ℕ) (m : Map) : Type 0 where
   pub spells : (s : List ℕ) → length s ≡ length half → take place s ≡ take place half
       → map_of_half s ≡ groups_from 0 m (drop place s)
+  pub ends : (s : List ℕ) → length s ≡ length half → take place s ≡ take place half
+      → groups_end s ≡ place + groups_length 0 (drop place s)
   pub closed : get_or half place 0 ≢ 1
   pub within : place ≤ length half
   pub behind : 45 ≤ place
@@ -36,6 +39,11 @@ pub record IsLive (epoch : ℕ) (other_open : Bool) (half other : List ℕ) : Ty
   pub beside : (get_or other 0 0 ≢ 1) ⊎ (IsTrue other_open × (epoch_of other < epoch))
   -- a gate that may be written over, and so be torn open, stands over a lesser epoch
   pub lesser : IsTrue other_open → epoch_of other < epoch
+
+-- an image tells that a journal goes on from this place, where the live half's groups end, and from that half's epoch
+pub record GoesOnFrom (at half place epoch : ℕ) (image : List ℕ) : Type 0 where
+  pub next : place ≡ place_in at half image
+  pub counts : epoch ≡ epoch_in at half image
 
 -- The disk tells what it holds, each crash image has the journal of the disk as it reads, and that spells the map.
 pub record Stands (l : Layout) (s : DiskState) (m : Map) : Type 0 where

@@ -30,6 +30,7 @@ impl<D: Disk> MetaLog<D> {
         ensures place { (self.new.at ≡ self.old.at) × (self.new.half ≡ self.old.half) }
         ensures staged { OnOk result (staged_of self.new ≡ 0) }
         ensures epoch { self.new.epoch ≡ self.old.epoch }
+        ensures next { OnOk result (self.new.place ≡ self.old.place + (37 + staged_of self.old)) }
         ensures failed { OnErr result
             (IsErrOf result Failed × Rose (state_of self.old).faults (state_of self.new).faults) }
         ensures stopped { OnErr result (self.new.stopped ≡ true) }

@@ -13,7 +13,7 @@ use crate::log::MetaLog;
 use vdisk::Disk;
 
 impl<D: Disk> MetaLog<D> {
-    ghost use Rattle.meta_log.specs.Log.{IsLog, state_of, now_of, staged_of, needs_checkpoint, epochs_taken};
+    ghost use Rattle.meta_log.specs.Log.{IsLog, state_of, now_of, staged_of, needs_checkpoint, epochs_taken, next_place, HasSpentEpochs};
     ghost use Rattle.meta_log.specs.declared.fault.MetaFault.TheVariants.{Failed, Worn};
 
     /// Makes what is staged durable, all of it or nothing: behind the last group where it fits there, or else as a
@@ -37,7 +37,13 @@ impl<D: Disk> MetaLog<D> {
         ensures now { now_of self.new ≡ now_of self.old }
         ensures place { (self.new.at ≡ self.old.at) × (self.new.half ≡ self.old.half) }
         ensures staged { OnOk result (staged_of self.new ≡ 0) }
+
+        // The epoch rises by one exactly where the staged records do not fit behind the last group, as the disk tells
+        // where that ends.
         ensures epoch { OnOk result (self.new.epoch ≡ self.old.epoch + epochs_taken self.old) }
+        ensures same_epoch { OnErr result (self.new.epoch ≡ self.old.epoch) }
+        ensures next { OnOk result (self.new.place ≡ next_place self.old) }
+        ensures spent { (m : Map) → IsLog self.old m → OnOk result (HasSpentEpochs self.old self.new) }
 
         // With nothing staged it does nothing.
         ensures idle { staged_of self.old ≡ 0 → (self.new ≡ self.old) × IsOk result }

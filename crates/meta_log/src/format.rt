@@ -61,6 +61,7 @@ impl<D: Disk> MetaLog<D> {
         ensures place { IfOk result (λ log. (log.at ≡ at) × (log.half ≡ half)) }
         ensures staged { IfOk result (λ log. staged_of log ≡ 0) }
         ensures epoch { IfOk result (λ log. log.epoch ≡ 1) }
+        ensures next { IfOk result (λ log. log.place ≡ 45) }
         ensures runs { IfOk result (λ log. log.stopped ≡ false) }
         // At each moment only the halves have changed, and from when both gates are closed they spell nothing, or the
         // empty map.

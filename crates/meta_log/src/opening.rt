@@ -4,7 +4,7 @@ ghost use Rattle.vdisk.specs.Causes.{Rose, HasCause};
 ghost use Rattle.vdisk.specs.Disk.{DiskState, Only};
 ghost use Rattle.vdisk.specs.Ranges.{part};
 ghost use Rattle.meta_log.specs.Meta.{is_open, epoch_of, map_of_half, meta_of};
-ghost use Rattle.meta_log.specs.Ready.{AreHalves, GoesOn, Stands};
+ghost use Rattle.meta_log.specs.Ready.{AreHalves, GoesOn, GoesOnFrom, Stands};
 ghost use Rattle.meta_log.specs.Reading.{IsSpellable, records_bytes};
 ghost use Rattle.meta_log.specs.Opened.{IsOnlyRead, is_live, IsChoice, IsChosen, chosen_layout, IsOpenFault};
 
@@ -208,6 +208,8 @@ fn read_journal<D: Disk>(
         journal.found.map) }
     ensures spells { IsTrue (D.state disk.old).tells →
         IfOk result (λ journal. meta_of at half (D.state disk.old).image ≡ Ok journal.found.map) }
+    ensures goes_on { IsTrue (D.state disk.old).tells →
+        IfOk result (λ journal. GoesOnFrom at half journal.found.place journal.found.epoch (D.state disk.old).image) }
     ensures halves { IfOk result (λ journal. AreHalves at half journal.choice.live_at journal.choice.other_at) }
     ensures fits { IfOk result (λ journal. 45 + records_bytes journal.found.map ≤ journal.found.place) }
     ensures spellable { IfOk result (λ journal. IsSpellable journal.found.map) }
@@ -256,6 +258,9 @@ impl<D: Disk> MetaLog<D> {
             IfOk result (λ log. meta_of at half (D.state disk).image ≡ Ok (now_of log)) }
         ensures epoch { IsTrue (D.state disk).tells →
             IfOk result (λ log. epoch_of (part log.live_at half (D.state disk).image) ≡ log.epoch) }
+        // The next group goes where the live half's groups end.
+        ensures goes_on { IsTrue (D.state disk).tells →
+            IfOk result (λ log. GoesOnFrom at half log.place log.epoch (D.state disk).image) }
         ensures damaged { IsTrue (D.state disk).tells →
             IfErr result (λ e. (h : ℕ) → e.1 ≡ MetaFault.Damaged h → meta_of at half (D.state disk).image ≡ Err h) }
         ensures refused { IfErr result (λ e. IsOpenFault e.1) }

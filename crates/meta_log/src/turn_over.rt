@@ -34,7 +34,7 @@ fn close_gate<D: Disk>(disk: &mut D, at: u64, may_be_open: bool) -> Result<(), v
 }
 
 impl<D: Disk> MetaLog<D> {
-    ghost use Rattle.meta_log.specs.Log.{IsLog, state_of, now_of, staged_of};
+    ghost use Rattle.meta_log.specs.Log.{IsLog, state_of, now_of, staged_of, checkpoint_length};
     ghost use Rattle.meta_log.specs.declared.fault.MetaFault.TheVariants.{Failed};
 
     /// Makes what is staged durable by a checkpoint of the map now in the other half, which is live from then on.
@@ -52,6 +52,8 @@ impl<D: Disk> MetaLog<D> {
         ensures place { (self.new.at ≡ self.old.at) × (self.new.half ≡ self.old.half) }
         ensures staged { OnOk result (staged_of self.new ≡ 0) }
         ensures epoch { OnOk result (self.new.epoch ≡ self.old.epoch + 1) }
+        ensures same_epoch { OnErr result (self.new.epoch ≡ self.old.epoch) }
+        ensures next { OnOk result (self.new.place ≡ checkpoint_length (now_of self.old)) }
         ensures failed { OnErr result (IsErrOf result Failed
             × Rose (state_of self.old).faults (state_of self.new).faults) }
         ensures stopped { OnErr result (self.new.stopped ≡ true) }

@@ -1,9 +1,8 @@
 // The states of clusters.
 ghost use Rattle.std.specs.Prelude.{◌≡◌, ◌<◌, length};
 
-use crate::numbers::{no_question, short_number};
-use asked_rows::{Answers, Asked};
 use cluster_space::{Memory, Space, State};
+use row_files::{Answers, Asked, RowFault, or_memory};
 use std::alloc::{AllocError, Global};
 
 /// A space and how many clusters it has.
@@ -65,14 +64,18 @@ impl Clusters {
     }
 }
 
+fn fresh(alloc: Global, count: u32) -> Result<Clusters, RowFault> {
+    or_memory(Clusters::new(alloc, count))
+}
+
 /// Answers the lines of a row about one space.
-pub fn answer(alloc: Global, asked: &[u8], answers: &mut Answers) -> anyhow::Result<()> {
-    let mut clusters = Clusters::new(alloc, 0)?;
+pub fn answer(alloc: Global, asked: &[u8], answers: &mut Answers) -> Result<(), RowFault> {
+    let mut clusters = fresh(alloc, 0)?;
     for line in asked.split(|byte| *byte == b'\n') {
         let mut words = Asked::new(line);
         match words.word() {
             b"" => {}
-            b"new" => clusters = Clusters::new(alloc, short_number(&mut words)?)?,
+            b"new" => clusters = fresh(alloc, words.short_number()?)?,
             b"use" => turned(answers, &mut clusters, words, State::Used)?,
             b"defer" => turned(answers, &mut clusters, words, State::Deferred)?,
             b"release" => turned(answers, &mut clusters, words, State::Free)?,
@@ -82,7 +85,7 @@ pub fn answer(alloc: Global, asked: &[u8], answers: &mut Answers) -> anyhow::Res
             b"free" => answers.number(u64::from(clusters.space.free_count()))?,
             b"deferred" => answers.number(u64::from(clusters.space.deferred_count()))?,
             b"states" => states(answers, &clusters)?,
-            _ => return Err(no_question()),
+            _ => return Err(RowFault::NoQuestion),
         }
     }
     Ok(())
@@ -93,8 +96,8 @@ fn turned(
     clusters: &mut Clusters,
     mut asked: Asked<'_>,
     to: State,
-) -> anyhow::Result<()> {
-    let cluster = short_number(&mut asked)?;
+) -> Result<(), RowFault> {
+    let cluster = asked.short_number()?;
     Ok(answers.line(if clusters.turn(cluster, to) {
         "ok"
     } else {

@@ -1,22 +1,21 @@
 // Where texts are cut, by the fast body and by the plain one.
-use crate::numbers::{no_question, size};
 use crate::texts::text_of;
-use asked_rows::{Answers, Asked};
 use regression_chunker::{Cut, next_cut, next_cut_plain};
-use std::alloc::Global;
+use row_files::{Answers, Asked, RowFault};
+use std::alloc::{AllocError, Global};
 
 /// Answers the lines of a row about one text, which a line `text` makes.
-pub fn answer(alloc: Global, asked: &[u8], answers: &mut Answers) -> anyhow::Result<()> {
+pub fn answer(alloc: Global, asked: &[u8], answers: &mut Answers) -> Result<(), RowFault> {
     let mut text = Vec::new(alloc);
     for line in asked.split(|byte| *byte == b'\n') {
         let mut words = Asked::new(line);
         match words.word() {
             b"" => {}
             b"text" => text = text_of(alloc, words)?,
-            b"plain" => pieces(alloc, &text, Body::Plain, answers)?,
-            b"windows" => pieces(alloc, &text, Body::Fast(size(&mut words)?), answers)?,
-            b"given" => given(alloc, &text, size(&mut words)?, answers)?,
-            _ => return Err(no_question()),
+            b"plain" => pieces(&text, Body::Plain, answers)?,
+            b"windows" => pieces(&text, Body::Fast(words.size()?), answers)?,
+            b"given" => given(&text, words.size()?, answers)?,
+            _ => return Err(RowFault::NoQuestion),
         }
     }
     Ok(())
@@ -32,16 +31,16 @@ enum Body {
 }
 
 /// Says the sizes of the pieces of a text, one a line.
-fn pieces(alloc: Global, text: &[u8], body: Body, answers: &mut Answers) -> anyhow::Result<()> {
+fn pieces(text: &[u8], body: Body, answers: &mut Answers) -> Result<(), RowFault> {
     let mut rest = text;
     for _ in 0..text.len() {
         if rest.is_empty() {
             break;
         }
         let Some(piece) = first_piece(rest, body) else {
-            return Err(anyhow::anyhow!("all that is left is not enough"));
+            return Err(RowFault::NoQuestion);
         };
-        answers.line(&format!(in alloc; "{piece}")?)?;
+        answers.number(piece as u64)?;
         rest = rest.get(piece..).unwrap_or(b"");
     }
     Ok(())
@@ -86,16 +85,17 @@ fn plain_cut(rest: &[u8], given: usize) -> Option<Cut> {
 }
 
 /// Says what both bodies answer on the first bytes of a text.
-fn given(alloc: Global, text: &[u8], given: usize, answers: &mut Answers) -> anyhow::Result<()> {
+fn given(text: &[u8], given: usize, answers: &mut Answers) -> Result<(), AllocError> {
     let fast = fast_cut(text, given);
     if fast != plain_cut(text, given) {
-        answers.line("the two bodies differ")?;
-        return Ok(());
+        return answers.line("the two bodies differ");
     }
     match fast {
-        Some(Cut::At(piece)) => answers.line(&format!(in alloc; "cut {piece}")?)?,
-        Some(Cut::NeedMore) => answers.line("need more")?,
-        None => answers.line("nothing is given")?,
+        Some(Cut::At(piece)) => {
+            answers.part(b"cut ")?;
+            answers.number(piece as u64)
+        }
+        Some(Cut::NeedMore) => answers.line("need more"),
+        None => answers.line("nothing is given"),
     }
-    Ok(())
 }

@@ -1,9 +1,8 @@
 // The entries of a stream map and their bytes.
 ghost use Rattle.std.specs.Prelude.{◌≡◌, ◌≤◌, ◌*◌, ◌+◌};
 
-use crate::numbers::{no_question, number, short_number};
-use asked_rows::{Answers, Asked};
-use std::alloc::Global;
+use row_files::{Answers, Asked, RowFault};
+use std::alloc::{AllocError, Global};
 use stream_map::{ENTRY_BYTES, Entry, MapFault, Walk, decode_entry, encode_entry};
 
 /// A walk, of how many bytes it is, and the most entries that it has been handed.
@@ -49,42 +48,41 @@ fn push(walk: &mut Walk, bytes: &[u8; ENTRY_BYTES]) -> Result<Entry, MapFault>
 }
 
 /// Answers the lines of a row, of which the last `walk` begins the walk that is asked.
-pub fn answer(alloc: Global, asked: &[u8], answers: &mut Answers) -> anyhow::Result<()> {
+pub fn answer(alloc: Global, asked: &[u8], answers: &mut Answers) -> Result<(), RowFault> {
     let mut walked = None;
     for line in asked.split(|byte| *byte == b'\n') {
         let mut words = Asked::new(line);
         match words.word() {
             b"" => {}
             b"encode" => answers.digits(&encode_entry(entry_of(words)?))?,
-            b"decode" => answers.line(&decoded(alloc, words)?)?,
-            b"walk" => walked = begun(answers, short_number(&mut words)?)?,
-            _ => answer_walk(alloc, &mut walked, Asked::new(line), answers)?,
+            b"decode" => tell(answers, decoded(alloc, words)?)?,
+            b"walk" => walked = begun(answers, words.short_number()?)?,
+            _ => answer_walk(&mut walked, Asked::new(line), answers)?,
         }
     }
     Ok(())
 }
 
-fn entry_of(mut asked: Asked<'_>) -> anyhow::Result<Entry> {
-    let id = number(&mut asked)?;
-    let length = short_number(&mut asked)?;
+fn entry_of(mut asked: Asked<'_>) -> Result<Entry, RowFault> {
+    let id = asked.number()?;
+    let length = asked.short_number()?;
     Ok(Entry { id, length })
 }
 
-fn spelt(alloc: Global, entry: Entry) -> anyhow::Result<String> {
-    Ok(format!(in alloc; "{} {}", entry.id, entry.length)?)
+fn tell(answers: &mut Answers, entry: Entry) -> Result<(), AllocError> {
+    answers.part_number(entry.id)?;
+    answers.part(b" ")?;
+    answers.number(u64::from(entry.length))
 }
 
-fn decoded(alloc: Global, mut asked: Asked<'_>) -> anyhow::Result<String> {
-    let Some(bytes) = asked.bytes(alloc)? else {
-        return Err(no_question());
-    };
-    match bytes.as_slice().first_chunk::<ENTRY_BYTES>() {
-        Some(bytes) => spelt(alloc, decode_entry(bytes)),
-        None => Err(no_question()),
+fn decoded(alloc: Global, mut asked: Asked<'_>) -> Result<Entry, RowFault> {
+    match asked.bytes(alloc)?.as_slice().first_chunk::<ENTRY_BYTES>() {
+        Some(bytes) => Ok(decode_entry(bytes)),
+        None => Err(RowFault::NoQuestion),
     }
 }
 
-fn begun(answers: &mut Answers, total: u32) -> anyhow::Result<Option<Walked>> {
+fn begun(answers: &mut Answers, total: u32) -> Result<Option<Walked>, AllocError> {
     match Walked::new(total) {
         Ok(walked) => {
             answers.line("ok")?;
@@ -98,27 +96,30 @@ fn begun(answers: &mut Answers, total: u32) -> anyhow::Result<Option<Walked>> {
 }
 
 fn answer_walk(
-    alloc: Global,
     walked: &mut Option<Walked>,
     mut asked: Asked<'_>,
     answers: &mut Answers,
-) -> anyhow::Result<()> {
+) -> Result<(), RowFault> {
     let Some(walked) = walked else {
-        return Err(no_question());
+        return Err(RowFault::NoQuestion);
     };
     match asked.word() {
-        b"push" => answers.line(&pushed(alloc, walked, entry_of(asked)?)?)?,
+        b"push" => pushed(answers, walked, entry_of(asked)?)?,
         b"covered" => answers.number(walked.walk.covered())?,
-        _ => return Err(no_question()),
+        _ => return Err(RowFault::NoQuestion),
     }
     Ok(())
 }
 
-fn pushed(alloc: Global, walked: &mut Walked, entry: Entry) -> anyhow::Result<String> {
+fn pushed(answers: &mut Answers, walked: &mut Walked, entry: Entry) -> Result<(), RowFault> {
     match walked.push(&encode_entry(entry)) {
-        Some(Ok(entry)) => spelt(alloc, entry),
-        Some(Err(MapFault::ZeroPiece(k))) => Ok(format!(in alloc; "ZeroPiece {k}")?),
-        Some(Err(MapFault::BadLength)) => Ok(format!(in alloc; "BadLength")?),
-        None => Err(no_question()),
+        Some(Ok(entry)) => tell(answers, entry)?,
+        Some(Err(MapFault::ZeroPiece(k))) => {
+            answers.part(b"ZeroPiece ")?;
+            answers.number(u64::from(k))?;
+        }
+        Some(Err(MapFault::BadLength)) => answers.line("BadLength")?,
+        None => return Err(RowFault::NoQuestion),
     }
+    Ok(())
 }

@@ -1,9 +1,8 @@
 // The two forms of an index side by side.
 ghost use Rattle.std.specs.Prelude.{◌==◌, if◌then◌else◌, None, slice_get};
 
-use crate::numbers::{byte, no_question, number};
-use asked_rows::{Answers, Asked};
 use hash_index::{CompactIndex, Digests, Index, LARGEST_ID, OrderedIndex};
+use row_files::{Answers, Asked, RowFault, or_memory};
 use std::alloc::{AllocError, Global};
 
 /// The digests by their ids, of which one is forgotten.
@@ -33,7 +32,7 @@ struct Both {
 }
 
 /// Answers the lines of a row about both forms.
-pub fn answer(alloc: Global, asked: &[u8], answers: &mut Answers) -> anyhow::Result<()> {
+pub fn answer(alloc: Global, asked: &[u8], answers: &mut Answers) -> Result<(), RowFault> {
     let mut both = Both {
         known: Known {
             digests: Vec::new(alloc),
@@ -55,21 +54,18 @@ fn answer_line(
     both: &mut Both,
     mut asked: Asked<'_>,
     answers: &mut Answers,
-) -> anyhow::Result<()> {
+) -> Result<(), RowFault> {
     match asked.word() {
-        b"numbered" => both.known.digests = numbered(alloc, number(&mut asked)?)?,
+        b"numbered" => both.known.digests = numbered(alloc, asked.number()?)?,
         b"alike" => both.known.digests = alike(alloc, asked)?,
-        b"forget" => both.known.forgotten = number(&mut asked)?,
+        b"forget" => both.known.forgotten = asked.number()?,
         b"insert" => insert_each(both, asked)?,
-        b"find" => answers.line(&found(alloc, both, asked)?)?,
+        b"find" => found(answers, both, asked)?,
         b"find-each" => answers.number(found_each(both, asked)?)?,
         b"clear" => clear(both),
         b"held" => answers.number(both.compact.held() as u64)?,
-        b"slots-at-most" => {
-            let is_small = both.compact.slots() as u64 <= number(&mut asked)?;
-            answers.line(if is_small { "yes" } else { "no" })?;
-        }
-        _ => return Err(no_question()),
+        b"slots-at-most" => answers.whether(both.compact.slots() <= asked.size()?)?,
+        _ => return Err(RowFault::NoQuestion),
     }
     Ok(())
 }
@@ -91,9 +87,9 @@ fn numbered(alloc: Global, count: u64) -> Result<Vec<[u8; 32]>, AllocError> {
 }
 
 /// `COUNT BYTE`: so many digests of that byte alone.
-fn alike(alloc: Global, mut asked: Asked<'_>) -> anyhow::Result<Vec<[u8; 32]>> {
-    let count = number(&mut asked)?;
-    let digest = [byte(&mut asked)?; 32];
+fn alike(alloc: Global, mut asked: Asked<'_>) -> Result<Vec<[u8; 32]>, RowFault> {
+    let count = asked.number()?;
+    let digest = [asked.byte()?; 32];
     let mut digests = Vec::new(alloc);
     for _ in 0..count {
         digests.push(digest)?;
@@ -102,11 +98,11 @@ fn alike(alloc: Global, mut asked: Asked<'_>) -> anyhow::Result<Vec<[u8; 32]>> {
 }
 
 /// `FIRST END`: inserts the ids from one up to another under their digests.
-fn insert_each(both: &mut Both, mut asked: Asked<'_>) -> anyhow::Result<()> {
-    let first = number(&mut asked)?;
-    for id in first..number(&mut asked)? {
+fn insert_each(both: &mut Both, mut asked: Asked<'_>) -> Result<(), RowFault> {
+    let first = asked.number()?;
+    for id in first..asked.number()? {
         let Some(digest) = both.known.digests.get(id as usize).copied() else {
-            return Err(no_question());
+            return Err(RowFault::NoQuestion);
         };
         insert(&mut both.ordered, &digest, id, &both.known)?;
         insert(&mut both.compact, &digest, id, &both.known)?;
@@ -119,11 +115,11 @@ fn insert<I: Index>(
     digest: &[u8; 32],
     id: u64,
     known: &Known,
-) -> anyhow::Result<()> {
+) -> Result<(), RowFault> {
     if id == 0 || id > LARGEST_ID {
-        return Err(no_question());
+        return Err(RowFault::NoQuestion);
     }
-    Ok(index.insert(digest, id, known)?)
+    or_memory(index.insert(digest, id, known))
 }
 
 fn find<I: Index>(index: &I, digest: &[u8; 32], after: u64, known: &Known) -> Option<u64> {
@@ -141,24 +137,25 @@ fn found_by_both(both: &Both, digest: &[u8; 32], after: u64) -> Result<Option<u6
 }
 
 /// `number N AFTER` or `byte B AFTER`: what is found under the digest of a number, or of a byte alone.
-fn found(alloc: Global, both: &Both, mut asked: Asked<'_>) -> anyhow::Result<String> {
+fn found(answers: &mut Answers, both: &Both, mut asked: Asked<'_>) -> Result<(), RowFault> {
     let digest = match asked.word() {
-        b"number" => digest_numbered(number(&mut asked)?),
-        b"byte" => [byte(&mut asked)?; 32],
-        _ => return Err(no_question()),
+        b"number" => digest_numbered(asked.number()?),
+        b"byte" => [asked.byte()?; 32],
+        _ => return Err(RowFault::NoQuestion),
     };
-    Ok(match found_by_both(both, &digest, number(&mut asked)?) {
-        Ok(Some(id)) => format!(in alloc; "{id}")?,
-        Ok(None) => format!(in alloc; "none")?,
-        Err(()) => format!(in alloc; "the two forms differ")?,
-    })
+    match found_by_both(both, &digest, asked.number()?) {
+        Ok(Some(id)) => answers.number(id)?,
+        Ok(None) => answers.line("none")?,
+        Err(()) => answers.line("the two forms differ")?,
+    }
+    Ok(())
 }
 
 /// `FIRST END`: of how many ids the digest is found at that id and at none above it.
-fn found_each(both: &Both, mut asked: Asked<'_>) -> anyhow::Result<u64> {
+fn found_each(both: &Both, mut asked: Asked<'_>) -> Result<u64, RowFault> {
     let mut count = 0u64;
-    let first = number(&mut asked)?.max(1);
-    for id in first..number(&mut asked)? {
+    let first = asked.number()?.max(1);
+    for id in first..asked.number()? {
         let digest = digest_numbered(id);
         let before = id.saturating_sub(1);
         let is_found = found_by_both(both, &digest, before) == Ok(Some(id));

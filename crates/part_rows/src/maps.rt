@@ -1,11 +1,11 @@
 // A map of byte strings, beside a plain list of values by key.
-use crate::numbers::{byte, next_state, no_question, number, size};
-use asked_rows::{Answers, Asked};
+use crate::draws::next_state;
 use byte_map::ByteMap;
+use row_files::{Answers, Asked, RowFault};
 use std::alloc::{AllocError, Global};
 
 /// Answers the lines of a row about one map. Keys and values are in hexadecimal digits.
-pub fn answer(alloc: Global, asked: &[u8], answers: &mut Answers) -> anyhow::Result<()> {
+pub fn answer(alloc: Global, asked: &[u8], answers: &mut Answers) -> Result<(), RowFault> {
     let mut map = ByteMap::new(alloc);
     for line in asked.split(|byte| *byte == b'\n') {
         if !line.is_empty() {
@@ -20,29 +20,22 @@ fn answer_line(
     map: &mut ByteMap,
     mut asked: Asked<'_>,
     answers: &mut Answers,
-) -> anyhow::Result<()> {
+) -> Result<(), RowFault> {
     match asked.word() {
-        b"put" => put(map, &bytes(alloc, &mut asked)?, &bytes(alloc, &mut asked)?)?,
-        b"drop" => drop_range(map, &bytes(alloc, &mut asked)?, &bytes(alloc, &mut asked)?),
-        b"fill" => fill(map, size(&mut asked)?, byte(&mut asked)?)?,
+        b"put" => put(map, &asked.bytes(alloc)?, &asked.bytes(alloc)?)?,
+        b"drop" => drop_range(map, &asked.bytes(alloc)?, &asked.bytes(alloc)?),
+        b"fill" => fill(map, asked.size()?, asked.byte()?)?,
         b"drop-numbers" => drop_numbers(map, asked)?,
-        b"get" => value(answers, get(map, &bytes(alloc, &mut asked)?))?,
+        b"get" => value(answers, get(map, &asked.bytes(alloc)?))?,
         b"first" => pair(answers, first(map))?,
-        b"next" => pair(answers, next(map, &bytes(alloc, &mut asked)?))?,
+        b"next" => pair(answers, next(map, &asked.bytes(alloc)?))?,
         b"count" => answers.number(map.count() as u64)?,
         b"bytes" => answers.number(map.bytes())?,
-        b"walk" => answers.line(&walked(alloc, map)?)?,
-        b"beside-a-list" => answers.line(&beside_a_list(alloc, map, asked)?)?,
-        _ => return Err(no_question()),
+        b"walk" => walked(answers, map)?,
+        b"beside-a-list" => beside_a_list(alloc, map, asked, answers)?,
+        _ => return Err(RowFault::NoQuestion),
     }
     Ok(())
-}
-
-fn bytes(alloc: Global, asked: &mut Asked<'_>) -> anyhow::Result<Vec<u8>> {
-    match asked.bytes(alloc)? {
-        Some(bytes) => Ok(bytes),
-        None => Err(no_question()),
-    }
 }
 
 fn put(map: &mut ByteMap, key: &[u8], value: &[u8]) -> Result<(), AllocError> {
@@ -85,7 +78,7 @@ fn pair(answers: &mut Answers, pair: Option<(&[u8], &[u8])>) -> Result<(), Alloc
 }
 
 /// How many pairs a walk gives, and how many bytes they have.
-fn walked(alloc: Global, map: &ByteMap) -> Result<String, AllocError> {
+fn walked(answers: &mut Answers, map: &ByteMap) -> Result<(), AllocError> {
     let mut walk = map.walk();
     let mut pairs = 0u64;
     let mut bytes = 0u64;
@@ -97,7 +90,10 @@ fn walked(alloc: Global, map: &ByteMap) -> Result<String, AllocError> {
         bytes = bytes.saturating_add(key.len() as u64);
         bytes = bytes.saturating_add(value.len() as u64);
     }
-    format!(in alloc; "{pairs} pairs, {bytes} bytes")
+    answers.part_number(pairs)?;
+    answers.part(b" pairs, ")?;
+    answers.part_number(bytes)?;
+    answers.line(" bytes")
 }
 
 /// Two bytes, so that the keys are in the order of their numbers.
@@ -124,26 +120,32 @@ fn fill(map: &mut ByteMap, count: usize, byte: u8) -> Result<(), AllocError> {
 }
 
 /// `FROM TO`: drops the keys of the numbers from one up to another.
-fn drop_numbers(map: &mut ByteMap, mut asked: Asked<'_>) -> anyhow::Result<()> {
-    let from = size(&mut asked)?;
-    let to = size(&mut asked)?;
+fn drop_numbers(map: &mut ByteMap, mut asked: Asked<'_>) -> Result<(), RowFault> {
+    let from = asked.size()?;
+    let to = asked.size()?;
     drop_range(map, &key_of(from), &key_of(to));
     Ok(())
 }
 
 /// `CALLS KEYS SEED`: so many drawn calls on the map and on a plain list, compared after each fiftieth.
-fn beside_a_list(alloc: Global, map: &mut ByteMap, mut asked: Asked<'_>) -> anyhow::Result<String> {
-    let calls = number(&mut asked)?;
-    let keys = size(&mut asked)?;
-    let mut state = number(&mut asked)?;
+fn beside_a_list(
+    alloc: Global,
+    map: &mut ByteMap,
+    mut asked: Asked<'_>,
+    answers: &mut Answers,
+) -> Result<(), RowFault> {
+    let calls = asked.number()?;
+    let keys = asked.size()?;
+    let mut state = asked.number()?;
     let mut list = vec![in alloc; None; keys]?;
     for call in 1..=calls {
         state = draw_call(map, &mut list, state)?;
         if call % 50 == 0 && !is_alike(map, &list) {
-            return Ok(format!(in alloc; "they differ after call {call}")?);
+            answers.part(b"they differ after call ")?;
+            return Ok(answers.number(call)?);
         }
     }
-    Ok(format!(in alloc; "alike")?)
+    Ok(answers.line("alike")?)
 }
 
 /// A number below a bound; 0 where that is 0.

@@ -1,11 +1,10 @@
 // The prints of windows.
-use crate::numbers::{no_question, number};
-use asked_rows::{Answers, Asked};
 use regression_chunker::Print;
+use row_files::{Answers, Asked, RowFault};
 use std::alloc::Global;
 
 /// Answers each line `HEX ZEROS` by the print of the window behind these bytes and so many zeros.
-pub fn answer(alloc: Global, asked: &[u8], answers: &mut Answers) -> anyhow::Result<()> {
+pub fn answer(alloc: Global, asked: &[u8], answers: &mut Answers) -> Result<(), RowFault> {
     for line in asked.split(|byte| *byte == b'\n') {
         if !line.is_empty() {
             let print = print_of(alloc, Asked::new(line))?;
@@ -15,11 +14,9 @@ pub fn answer(alloc: Global, asked: &[u8], answers: &mut Answers) -> anyhow::Res
     Ok(())
 }
 
-fn print_of(alloc: Global, mut asked: Asked<'_>) -> anyhow::Result<u64> {
-    let Some(bytes) = asked.bytes(alloc)? else {
-        return Err(no_question());
-    };
-    let zeros = number(&mut asked)?;
+fn print_of(alloc: Global, mut asked: Asked<'_>) -> Result<u64, RowFault> {
+    let bytes = asked.bytes(alloc)?;
+    let zeros = asked.number()?;
     let mut print = Print::new();
     let last = push_all(&mut print, &bytes);
     Ok(if zeros == 0 {

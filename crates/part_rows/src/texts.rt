@@ -1,23 +1,23 @@
 // Texts that a line makes.
-use crate::numbers::{next_state, no_question, size};
-use asked_rows::Asked;
+use crate::draws::next_state;
+use row_files::{Asked, RowFault};
 use std::alloc::{AllocError, Global};
 
 /// The text of a line: `zeros COUNT`, `zeros-but COUNT PLACE HEX` with these bytes at a place, `random EIGHTS SEED` of
 /// so many times eight bytes, or `again TIMES SENTENCE`.
-pub fn text_of(alloc: Global, mut asked: Asked<'_>) -> anyhow::Result<Vec<u8>> {
+pub fn text_of(alloc: Global, mut asked: Asked<'_>) -> Result<Vec<u8>, RowFault> {
     Ok(match asked.word() {
-        b"zeros" => zeros(alloc, size(&mut asked)?)?,
+        b"zeros" => zeros(alloc, asked.size()?)?,
         b"zeros-but" => zeros_but(alloc, asked)?,
         b"random" => {
-            let eights = size(&mut asked)?;
-            random_bytes(alloc, eights, asked.number().unwrap_or(1))?
+            let eights = asked.size()?;
+            random_bytes(alloc, eights, asked.some_number().unwrap_or(1))?
         }
         b"again" => {
-            let times = size(&mut asked)?;
+            let times = asked.size()?;
             repeated(alloc, asked.rest(), times)?
         }
-        _ => return Err(no_question()),
+        _ => return Err(RowFault::NoQuestion),
     })
 }
 
@@ -25,12 +25,10 @@ fn zeros(alloc: Global, count: usize) -> Result<Vec<u8>, AllocError> {
     vec![in alloc; 0u8; count]
 }
 
-fn zeros_but(alloc: Global, mut asked: Asked<'_>) -> anyhow::Result<Vec<u8>> {
-    let mut text = zeros(alloc, size(&mut asked)?)?;
-    let place = size(&mut asked)?;
-    let Some(bytes) = asked.bytes(alloc)? else {
-        return Err(no_question());
-    };
+fn zeros_but(alloc: Global, mut asked: Asked<'_>) -> Result<Vec<u8>, RowFault> {
+    let mut text = zeros(alloc, asked.size()?)?;
+    let place = asked.size()?;
+    let bytes = asked.bytes(alloc)?;
     for (k, byte) in bytes.iter().enumerate() {
         if let Some(at) = text.get_mut(place.saturating_add(k)) {
             *at = *byte;

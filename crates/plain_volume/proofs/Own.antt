@@ -1,10 +1,10 @@
 -- What the plain machine answers, case by case, for code that meets it.
 use Rattle.sha2.specs.Sha256.{sha256}
-use Rattle.std.proofs.Common.{◌≡◌, ◌≢◌, inl, inr, ℕ, ◌+◌, ◌≤◌, ◌<◌, Bool, true, false, not, nat_le, nat_lt, is_some, List, [], length, take, drop, Option, Some, None, Ok, Err, refl, sym, ap, subst, ◌∙◌, arith, ◌⊎◌}
+use Rattle.std.proofs.Common.{◌≡◌, ◌≢◌, inl, inr, ℕ, ◌+◌, ◌≤◌, ◌<◌, Bool, true, false, IsTrue, not, nat_le, nat_lt, is_some, List, [], length, take, drop, Option, Some, None, Ok, Err, refl, sym, ap, subst, ◌∙◌, arith, ◌⊎◌}
 use Rattle.std.proofs.lemmas.Bool.Decides.{nat_tests}
 use Rattle.plain_volume.specs.declared.limits.TheConstants.{MOST_FILES, MOST_BYTES_OF_A_CALL, MOST_BYTES_OF_A_FILE}
 use Rattle.plain_volume.specs.Volume.{Cell, Volume, cells_of, with_file, is_lawful, overwritten, lost_where, is_within, bytes_of, without_file, resized}
-use Rattle.plain_volume.specs.Step.{Outcome, refuse_if, at_file, unless_lost, named, plain, left_by, create, write, write_within, write_whole, read, read_whole, lost_beside, set_length, digest, rename}
+use Rattle.plain_volume.specs.Step.{Outcome, takes_memory, refuse_if, at_file, unless_lost, named, plain, left_by, create, write, write_within, write_whole, read, read_whole, lost_beside, set_length, digest, rename}
 use Rattle.plain_volume.specs.Replies.{own_reply, IsOwn, IsOwnOrMemory, IsOwnResult}
 use Rattle.plain_volume.specs.declared.call.Call.{Call}
 use Rattle.plain_volume.specs.declared.call.Call.TheVariants.{Create, Rename}
@@ -17,9 +17,6 @@ use Rattle.plain_volume.specs.declared.call.Fault.TheVariants.{BadName, NoFile, 
 
 pub own_refusal : (v : Volume) (call : Call) (fault : Fault) → plain v call ≡ Err fault → IsOwnOrMemory v call (reply.Refused fault) v
 own_refusal v call fault is = record { own = inl (ap own_reply (sym is)); left = refl }
-
-pub own_memory : (v : Volume) (call : Call) → IsOwnOrMemory v call (reply.Refused Memory) v
-own_memory v call = record { own = inr refl; left = refl }
 
 pub own_answer : (v : Volume) (call : Call) (given : Reply) (w : Volume) → plain v call ≡ Ok (given, w) → ((fault : Fault) → given ≢ reply.Refused fault) → IsOwnOrMemory v call given w
 own_answer v call given w is no_refusal = record { own = inl (ap own_reply (sym is)); left = by given no_refusal is }
@@ -39,9 +36,9 @@ own_done v call w is = own_answer v call reply.Done w is (λ fault e. cc)
 pub own_unless_memory : (v w : Volume) (call : Call) (given : Reply) → IsOwnOrMemory v call given w → given ≢ reply.Refused Memory → IsOwn v call given w
 own_unless_memory v w call given step not_memory = by step.own
   where
-    by : (given ≡ own_reply (plain v call)) ⊎ (given ≡ reply.Refused Memory) → IsOwn v call given w
+    by : (given ≡ own_reply (plain v call)) ⊎ ((given ≡ reply.Refused Memory) × IsTrue (takes_memory call)) → IsOwn v call given w
     by (inl own) = record { own = own; left = step.left }
-    by (inr wanting) = absurd (not_memory wanting)
+    by (inr wanting) = absurd (not_memory wanting.0)
 
 -- code that passes on the refusal
 pub passes_on : (v : Volume) (call : Call) (fault : Fault) → plain v call ≡ Err fault → IsOwnResult v call (Err fault) v

@@ -1,13 +1,14 @@
 -- Laws of the plain machine.
 use Rattle.std.specs.Prelude.{◌≡◌, Bool, true, false, IsTrue, List, [], ◌++◌}
 use Rattle.plain_volume.specs.Volume.{Volume, IsLawfulVolume}
-use Rattle.plain_volume.specs.Step.{Step, Legal, replay, after}
+use Rattle.plain_volume.specs.Step.{Step, Legal, replay, after, takes_memory}
 use Rattle.plain_volume.specs.Replies.{IsOwnOrMemory}
 use Rattle.plain_volume.specs.declared.call.Call.{Call}
 use Rattle.plain_volume.specs.declared.call.Call.TheVariants.{Create, Write, SetLength, Rename, Delete, Read, Digest, Stat, Next, Flush}
 use Rattle.plain_volume.specs.declared.call.Reply.{Reply}
 use Rattle.plain_volume.specs.declared.call.Reply.TheVariants as reply
 use Rattle.plain_volume.specs.declared.call.Fault.{Fault}
+use Rattle.plain_volume.specs.declared.call.Fault.TheVariants.{Memory}
 
 -- from a volume, a call and a reply there is at most one volume after
 abbrev pub StepsLeaveOneVolume : Type 0
@@ -41,6 +42,10 @@ RepliesFitTheirCalls = (v w : Volume) (call : Call) (given : Reply) → Step v c
 
 abbrev pub OwnRepliesAreSteps : Type 0
 OwnRepliesAreSteps = (v w : Volume) (call : Call) (given : Reply) → IsOwnOrMemory v call given w → Step v call given w
+
+-- want of memory answers only calls that take some
+abbrev pub OnlyTakersLackMemory : Type 0
+OnlyTakersLackMemory = (v w : Volume) (call : Call) → Step v call (reply.Refused Memory) w → IsTrue (takes_memory call)
 
 abbrev pub ReplaySplits : Type 0
 ReplaySplits = (v : Volume) (front rest : List (Call × Reply)) → replay v (front ++ rest) ≡ replay (replay v front) rest

@@ -1,7 +1,7 @@
 -- A machine's own reply, and results of code as replies.
-use Rattle.std.specs.Prelude.{◌≡◌, ◌⊎◌, ℕ, List, Result, Ok, Err}
+use Rattle.std.specs.Prelude.{◌≡◌, ◌⊎◌, IsTrue, ℕ, List, Result, Ok, Err}
 use Rattle.plain_volume.specs.Volume.{Volume}
-use Rattle.plain_volume.specs.Step.{Outcome, plain, after}
+use Rattle.plain_volume.specs.Step.{Outcome, plain, after, takes_memory}
 use Rattle.plain_volume.specs.declared.call.Call.{Call}
 use Rattle.plain_volume.specs.declared.call.Reply.{Reply}
 use Rattle.plain_volume.specs.declared.call.Reply.TheVariants as reply
@@ -13,9 +13,9 @@ abbrev pub own_reply : Outcome → Reply
 own_reply (Ok (answer, w)) = answer
 own_reply (Err fault) = reply.Refused fault
 
--- the plain machine's own reply, or a refusal for want of memory; and what is left after it
+-- the plain machine's own reply or, of a call that takes memory, a refusal for want of it; and what is left after it
 pub record IsOwnOrMemory (v : Volume) (call : Call) (given : Reply) (w : Volume) : Type 0 where
-  pub own : (given ≡ own_reply (plain v call)) ⊎ (given ≡ reply.Refused Memory)
+  pub own : (given ≡ own_reply (plain v call)) ⊎ ((given ≡ reply.Refused Memory) × IsTrue (takes_memory call))
   pub left : w ≡ after v call given
 
 -- the reply of a call that has nothing to tell

@@ -123,6 +123,14 @@ may_fail (Stat name) = false
 may_fail (Next after) = false
 may_fail call = true
 
+-- calls that take memory: what they keep or tell is of no bound
+abbrev pub takes_memory : Call → Bool
+takes_memory (Create name) = true
+takes_memory (Write name at bytes) = true
+takes_memory (Rename from to) = true
+takes_memory (Next after) = true
+takes_memory call = false
+
 -- the resources but for memory that a call may want
 abbrev pub may_want : Call → Fault → Bool
 may_want call Worn = may_be_worn call
@@ -132,9 +140,9 @@ may_want call Failed = may_fail call
 may_want call fault = false
 
 -- Want of a resource stands in the place of an answer, or of a lost cell, which is looked for later. Want of memory
--- may stand in any place.
+-- may stand in any place, of a call that takes some.
 abbrev pub MayLack : Call → Outcome → Fault → Type 0
-MayLack call outcome Memory = Unit {0}
+MayLack call outcome Memory = IsTrue (takes_memory call)
 MayLack call (Ok answer) fault = IsTrue (may_want call fault)
 MayLack call (Err (Damaged place)) fault = IsTrue (may_want call fault)
 MayLack call (Err other) fault = ⊥

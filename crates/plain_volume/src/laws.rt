@@ -1,5 +1,5 @@
 // Laws of the definitions, each the contract of an empty function.
-ghost use Rattle.plain_volume.specs.Laws.{StepsLeaveOneVolume, RefusedCallsChangeNothing, RepliesFitTheirCalls, OwnRepliesAreSteps, ReplaySplits, LegalSplits, LegalJoins, CallsKeepLawfulVolumes, EmptyIsLawful};
+ghost use Rattle.plain_volume.specs.Laws.{StepsLeaveOneVolume, RefusedCallsChangeNothing, RepliesFitTheirCalls, OwnRepliesAreSteps, OnlyTakersLackMemory, ReplaySplits, LegalSplits, LegalJoins, CallsKeepLawfulVolumes, EmptyIsLawful};
 
 /// From a volume, a call and a reply there is at most one volume after.
 pub fn steps_leave_one_volume()
@@ -16,9 +16,14 @@ pub fn replies_fit_their_calls()
     ensures { RepliesFitTheirCalls }
 {}
 
-/// The machine's own reply, and a refusal for want of memory, are replies that it may give.
+/// The machine's own reply and, to a call that takes memory, a refusal for want of it, are replies that it may give.
 pub fn own_replies_are_steps()
     ensures { OwnRepliesAreSteps }
+{}
+
+/// Only a call that takes memory is ever refused for want of it.
+pub fn only_takers_lack_memory()
+    ensures { OnlyTakersLackMemory }
 {}
 
 /// A list of calls with replies is legal exactly where its front is, and its rest is from where the front leaves.

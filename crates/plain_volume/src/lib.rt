@@ -18,7 +18,7 @@ mod rows;
 pub use bytes::{Bytes, Name};
 pub use call::{Call, Fault, Reply};
 pub use laws::{
-    calls_keep_lawful_volumes, legal_lists_split, own_replies_are_steps,
+    calls_keep_lawful_volumes, legal_lists_split, only_takers_lack_memory, own_replies_are_steps,
     refused_calls_change_nothing, replies_fit_their_calls, steps_leave_one_volume,
 };
 pub use memory::Memory;

@@ -11,6 +11,15 @@ fn digit(byte: u8) -> Option<u8> {
     }
 }
 
+/// The hexadecimal digit of a number below 16; `?` of a larger one.
+pub fn digit_of(value: u8) -> u8 {
+    match value {
+        0..=9 => b'0' + value,
+        10..=15 => b'a' + (value - 10),
+        _ => b'?',
+    }
+}
+
 /// The byte of two hexadecimal digits.
 pub fn byte_of(high: u8, low: u8) -> Option<u8> {
     Some((digit(high)? << 4) | digit(low)?)

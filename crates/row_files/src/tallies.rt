@@ -18,14 +18,20 @@ impl Tally {
         }
     }
 
-    /// Counts a row; where it is not right, the line of the file that it ends with is told.
+    /// Counts a row; where it is not right, a line of the file is told at which that is seen.
     pub fn count(&mut self, line: u64, is_right: bool) -> Result<(), AllocError> {
         self.rows = self.rows.saturating_add(1);
         if !is_right {
-            let text = format!(in self.alloc; "the row that ends at line {line} differs\n")?;
+            let text = format!(in self.alloc; "a row differs at line {line}\n")?;
             self.told.push_str(&text)?;
         }
         Ok(())
+    }
+
+    /// Tells more of the row that is counted next.
+    pub fn tell(&mut self, line: &str) -> Result<(), AllocError> {
+        self.told.push_str(line)?;
+        self.told.push_str("\n")
     }
 
     /// The rows that differ, one a line, and then how many there are in all, with the file's name.

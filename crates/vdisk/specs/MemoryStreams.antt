@@ -11,6 +11,10 @@ rest_of source = drop source.place source.bytes.items
 abbrev pub left_of : MemorySource → Option (List ℕ)
 left_of source = Some (rest_of source)
 
+-- how many bytes it has given
+abbrev pub given_by : MemorySource → ℕ
+given_by source = source.place
+
 -- the most bytes that it hands out at once
 abbrev pub source_most : MemorySource → ℕ
 source_most source = source.most

@@ -20,12 +20,13 @@ pub struct MemorySource {
 }
 
 impl MemorySource {
-    ghost use Rattle.vdisk.specs.MemoryStreams.{left_of, rest_of, source_faults, source_plan, source_most};
+    ghost use Rattle.vdisk.specs.MemoryStreams.{left_of, rest_of, given_by, source_faults, source_plan, source_most};
     ghost use Rattle.vdisk.specs.Faults.{IsUntried};
 
     /// Hands out all that is left, as far as there is room.
     pub fn new(bytes: Vec<u8>) -> Self
         ensures left { left_of result ≡ Some bytes.items }
+        ensures given { given_by result ≡ 0 }
         ensures faults { source_faults result ≡ 0 }
         ensures plan { IsUntried (source_plan result) }
         ensures most { source_most result ≡ 2 ^ 64 - 1 }
@@ -37,6 +38,7 @@ impl MemorySource {
     pub fn in_portions(bytes: Vec<u8>, most: usize) -> Self
         requires { 0 < most }
         ensures left { left_of result ≡ Some bytes.items }
+        ensures given { given_by result ≡ 0 }
         ensures faults { source_faults result ≡ 0 }
         ensures plan { IsUntried (source_plan result) }
         ensures most { source_most result ≡ most }
@@ -54,6 +56,7 @@ impl MemorySource {
     pub fn fail_at(&mut self, calls: Vec<u64>)
         ensures plan { source_plan self.new ≡ record (source_plan self.old) { listed = Some calls } }
         ensures left { left_of self.new ≡ left_of self.old }
+        ensures given { given_by self.new ≡ given_by self.old }
         ensures faults { source_faults self.new ≡ source_faults self.old }
         ensures most { source_most self.new ≡ source_most self.old }
     {
@@ -64,6 +67,7 @@ impl MemorySource {
     pub fn fail_from(&mut self, call: u64)
         ensures plan { source_plan self.new ≡ record (source_plan self.old) { from = call } }
         ensures left { left_of self.new ≡ left_of self.old }
+        ensures given { given_by self.new ≡ given_by self.old }
         ensures faults { source_faults self.new ≡ source_faults self.old }
         ensures most { source_most self.new ≡ source_most self.old }
     {
@@ -72,12 +76,14 @@ impl MemorySource {
 }
 
 impl Source for MemorySource {
-    ghost use Rattle.vdisk.specs.MemoryStreams.{left_of, rest_of, source_faults, source_plan, source_most};
-    ghost use Rattle.vdisk.specs.Streams.{Takes};
+    ghost use Rattle.vdisk.specs.MemoryStreams.{left_of, rest_of, given_by, source_faults, source_plan, source_most};
+    ghost use Rattle.vdisk.specs.Streams.{Takes, CountsOn};
     ghost use Rattle.vdisk.specs.Causes.{HasCause};
     ghost use Rattle.vdisk.specs.Faults.{FailsNext, Tried};
 
     ghost left = { λ s. left_of s };
+
+    ghost given = { λ s. given_by s };
 
     ghost faults = { λ s. source_faults s };
 
@@ -86,6 +92,7 @@ impl Source for MemorySource {
     fn read(&mut self, out: &mut [u8]) -> Result<usize, Failed>
         ensures bound { IfOk result (λ n. n ≤ length out.new) }
         ensures bytes { Takes (left_of self.old) (left_of self.new) result out.new }
+        ensures given { CountsOn (given_by self.old) (given_by self.new) result }
         ensures cause { HasCause (source_faults self.old) (source_faults self.new) result }
         ensures plan { Tried (source_plan self.old) (source_plan self.new) }
         ensures fails { IsErr result ↔ FailsNext (source_plan self.old) }

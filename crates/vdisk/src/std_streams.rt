@@ -7,29 +7,37 @@ use std::io::{Read, Write};
 use std::rt;
 use std::time::{SystemTime, UNIX_EPOCH};
 
-/// A source over a reader of std. It tells nothing of what it has left.
+/// A source over a reader of std. It tells nothing of what it has left, and counts what it gave.
 #[derive(Drop)]
 pub struct ReaderSource<T: Read + Drop> {
     reader: Option<T>,
+    given: u64,
     faults: u64,
     ghost counter: { faults < 2 ^ 64 },
 }
 
 impl<T: Read + Drop> ReaderSource<T> {
-    /// With no reader, every read fails. It has not failed yet.
+    /// With no reader, every read fails. It has given nothing, and has not failed yet.
     pub fn new(reader: Option<T>) -> Self
         ensures reader { result.reader ≡ reader }
+        ensures given { result.given ≡ 0 }
         ensures faults { result.faults ≡ 0 }
     {
-        ReaderSource { reader, faults: 0 }
+        ReaderSource {
+            reader,
+            given: 0,
+            faults: 0,
+        }
     }
 }
 
 impl<T: Read + Drop> Source for ReaderSource<T> {
     ghost use Rattle.vdisk.specs.Causes.{HasCause};
-    ghost use Rattle.vdisk.specs.Streams.{Takes};
+    ghost use Rattle.vdisk.specs.Streams.{Takes, CountsOn};
 
     ghost left = { λ s. None };
+
+    ghost given = { λ s. s.given };
 
     ghost faults = { λ s. s.faults };
 
@@ -38,12 +46,14 @@ impl<T: Read + Drop> Source for ReaderSource<T> {
     fn read(&mut self, out: &mut [u8]) -> Result<usize, Failed>
         ensures bound { IfOk result (λ n. n ≤ length out.new) }
         ensures bytes { Takes None None result out.new }
+        ensures given { CountsOn self.old.given self.new.given result }
         ensures cause { HasCause self.old.faults self.new.faults result }
         ensures none { IsNone self.old.reader → IsErr result }
         ensures stays { IsNone self.new.reader ↔ IsNone self.old.reader }
     {
         if let Some(reader) = &mut self.reader {
             if let Ok(count) = reader.read(out) {
+                self.given = self.given.saturating_add(count as u64);
                 return Ok(count);
             }
         }

@@ -1,7 +1,7 @@
 // What a program reads from and writes to, and what it asks the time.
 ghost use Rattle.std.specs.Prelude.{◌≡◌, ◌≤◌, ◌<◌, ◌^◌, ℕ, List, Option, length, IfOk, OnErr};
 ghost use Rattle.vdisk.specs.Causes.{HasCause};
-ghost use Rattle.vdisk.specs.Streams.{Takes, Puts, Answers};
+ghost use Rattle.vdisk.specs.Streams.{Takes, CountsOn, Puts, Answers};
 
 use crate::disk::Failed;
 
@@ -9,6 +9,9 @@ use crate::disk::Failed;
 pub trait Source {
     /// What is left to read, where the source tells it.
     ghost left: { Self → Option (List ℕ) };
+
+    /// How many bytes it has given, told or not, up to the last value of a counter.
+    ghost given: { Self → ℕ };
 
     /// How often it has failed.
     ghost faults: { Self → ℕ };
@@ -18,6 +21,7 @@ pub trait Source {
     fn read(&mut self, out: &mut [u8]) -> Result<usize, Failed>
         ensures bound { IfOk result (λ n. n ≤ length out.new) }
         ensures bytes { Takes (left self.old) (left self.new) result out.new }
+        ensures given { CountsOn (given self.old) (given self.new) result }
         ensures cause { HasCause (faults self.old) (faults self.new) result };
 
     /// The count is that of a counter.

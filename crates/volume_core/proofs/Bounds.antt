@@ -50,8 +50,9 @@ use Rattle.volume_files.specs.Wants.{Needs, wanting, has_room, free_of, last_id}
 use Rattle.volume_files.specs.Writing.{write_wants}
 use Rattle.volume_core.specs.Bounds.{files_bytes, touched_by, named_by, HasSpent, IsSpent}
 use Rattle.volume_core.specs.Volumes.{clusters_in, view_now}
-use Rattle.volume_core.specs.Wants.{wants_of, file_of}
+use Rattle.volume_core.specs.Wants.{wants_of}
 use Rattle.volume_core.specs.declared.volume.Volume.{Volume as Mounted}
+use Rattle.volume_core.proofs.Told.{file_of, tables_want, wants_told}
 
 -- ---- there are no more files than names
 
@@ -214,12 +215,12 @@ module _ {D : Type 0} {d : Ghosts D} (v : Mounted D d) (b i : ℕ) (has : HasSpe
       told (Write name at (x ∷ bytes)) (write_needs (tables_now v.tables) id at (length (x ∷ bytes)))
       (omega (arith, most)) (omega arith) fault is
 
-  pub spent : (call : Call) (fault : Fault) → wants_of v call ≡ Some fault → IsSpent v b i call fault
-  spent (Create name) fault is = told (Create name) (create_needs name) (omega arith) (omega arith) fault is
-  spent (Write name at bytes) fault is =
+  spent_by : (call : Call) (fault : Fault) → tables_want v.tables call ≡ Some fault → IsSpent v b i call fault
+  spent_by (Create name) fault is = told (Create name) (create_needs name) (omega arith) (omega arith) fault is
+  spent_by (Write name at bytes) fault is =
       of_file (file_of v.tables name) (λ id. write_wants v.tables id at bytes) fault
       (IsSpent v b i (Write name at bytes) fault) (λ id. of_write name at bytes fault id) is
-  spent (SetLength name len) fault is =
+  spent_by (SetLength name len) fault is =
       of_file (file_of v.tables name)
       (λ id. wanting v.tables (length_needs (tables_now v.tables) id (length_of (tables_now v.tables) id) len))
       fault
@@ -227,16 +228,19 @@ module _ {D : Type 0} {d : Ghosts D} (v : Mounted D d) (b i : ℕ) (has : HasSpe
       (λ id want. told (SetLength name len)
       (length_needs (tables_now v.tables) id (length_of (tables_now v.tables) id) len) (omega arith)
       (omega arith) fault want) is
-  spent (Rename from to) fault is = told (Rename from to) (rename_needs from to) (omega arith) (omega arith) fault is
-  spent (Delete name) fault is = told (Delete name) (delete_needs name) (omega arith) (omega arith) fault is
-  spent Flush fault is = flushed (would_wear v.tables) refl is
+  spent_by (Rename from to) fault is = told (Rename from to) (rename_needs from to) (omega arith) (omega arith) fault is
+  spent_by (Delete name) fault is = told (Delete name) (delete_needs name) (omega arith) (omega arith) fault is
+  spent_by Flush fault is = flushed (would_wear v.tables) refl is
     where
       flushed : (w : Bool) → would_wear v.tables ≡ w → cond w (Some Worn) None ≡ Some fault
           → IsSpent v b i Flush fault
       flushed true wears want =
           subst (IsSpent v b i Flush) (some_same Worn fault want) (used_up wears)
       flushed false wears want = absurd (let clash : None ≡ Some fault = want in cc)
-  spent (Read name at count) fault is = absurd (let clash : None ≡ Some fault = is in cc)
-  spent (Digest name) fault is = absurd (let clash : None ≡ Some fault = is in cc)
-  spent (Stat name) fault is = absurd (let clash : None ≡ Some fault = is in cc)
-  spent (Next after) fault is = absurd (let clash : None ≡ Some fault = is in cc)
+  spent_by (Read name at count) fault is = absurd (let clash : None ≡ Some fault = is in cc)
+  spent_by (Digest name) fault is = absurd (let clash : None ≡ Some fault = is in cc)
+  spent_by (Stat name) fault is = absurd (let clash : None ≡ Some fault = is in cc)
+  spent_by (Next after) fault is = absurd (let clash : None ≡ Some fault = is in cc)
+
+  pub spent : (call : Call) (fault : Fault) → wants_of v call ≡ Some fault → IsSpent v b i call fault
+  spent call fault is = spent_by call fault (sym (wants_told v call) ∙ is)

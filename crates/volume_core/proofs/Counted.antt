@@ -1,13 +1,13 @@
 -- Where just the clusters of a list are used, as many are used as it has, and none is deferred.
-use Rattle.std.specs.Prelude.{◌≡◌, ◌≤◌, ◌<◌, ◌+◌, ◌-◌, ℕ, cond, List, [], ◌∷◌, length, get_or, refl}
+use Rattle.std.specs.Prelude.{◌≡◌, ◌≤◌, ◌<◌, ◌+◌, ◌-◌, ℕ, cond, List, [], ◌∷◌, length, map, get_or, refl}
 use Rattle.std.proofs.Common.{suc, inl, inr, ap, ◌∙◌, arith, set, length-set, get_or-set_same}
 use Rattle.std.proofs.Common.{get_or-set_other}
 use Rattle.std.proofs.lemmas.Bool.{cases_eq}
 use Rattle.std.proofs.lemmas.List.Sums.{sum_by-set, sum_by-cons}
 use Rattle.cluster_space.proofs.Counts.{counts_of_all}
 use Rattle.cluster_space.specs.declared.state.State.{State}
-use Rattle.cluster_space.specs.declared.state.State.TheVariants.{Free, Used}
-use Rattle.cluster_space.specs.States.{IsIn, is_used, is_deferred, free_in, used_in, deferred_in}
+use Rattle.cluster_space.specs.declared.state.State.TheVariants.{Free, Used, Deferred}
+use Rattle.cluster_space.specs.States.{IsIn, is_used, is_deferred, free_in, used_in, deferred_in, released}
 use Rattle.table_rules.specs.Marks.{AllUsed, IsFilled}
 use Rattle.volume_inside.specs.Layout.{first_data_cluster, data_clusters, AreData}
 use Rattle.volume_inside.specs.Lists.{IsOut, IsOnce}
@@ -88,6 +88,29 @@ module _ (first : ℕ) where
       let rest = counts cs (set states (c - first) Free) from.1 once.1
       (still_used states c cs from.0 once.0 from.1 used.1) (still_free states c cs from.0 within free) in
       (omega (arith, less.0, rest.0), omega (arith, less.1, rest.1))
+
+-- the states once each deferred cluster is free
+pub none_deferred : (states : List State) → deferred_in (map released states) ≡ 0
+none_deferred [] = refl
+none_deferred (s ∷ ss) =
+    let rest = none_deferred ss in
+    let first : deferred_in (map released (s ∷ ss))
+    ≡ cond (is_deferred (released s)) 1 0 + deferred_in (map released ss) =
+    sum_by-cons (λ t. cond (is_deferred t) 1 0) (released s) (map released ss) in
+    omega (arith, rest, first, one s)
+  where
+    one : (t : State) → ◌≡◌ {A = ℕ} (cond (is_deferred (released t)) 1 0) 0
+    one Free = refl
+    one Used = refl
+    one Deferred = refl
+
+pub filled_deferred : (n : ℕ) (cs : List ℕ) (states : List State) → AreData n cs → IsOnce cs → IsFilled n cs states
+    → deferred_in states ≡ 0
+filled_deferred n cs states are once filled =
+    let free = filled.free in
+    let size = filled.size in
+    (counts (first_data_cluster n) cs states (data_from n cs are) once filled.used
+    (λ k low out. let is = free k (omega (arith, low, size)) out in is.state)).1
 
 pub filled_counts : (n : ℕ) (cs : List ℕ) (states : List State) → AreData n cs → IsOnce cs → IsFilled n cs states
     → free_in states + deferred_in states + length cs ≡ data_clusters n

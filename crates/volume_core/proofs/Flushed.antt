@@ -1,7 +1,7 @@
 -- What a commit of the tables is for a volume.
 use Rattle.std.specs.Prelude.{◌≡◌, ◌⊎◌, ◌↔◌, ◌+◌, ℕ, Bool, true, false, cond, IsTrue, length}
-use Rattle.std.specs.Prelude.{Some, None, Result, Ok, Err, OnErr, IsErrOf, refl}
-use Rattle.std.proofs.Common.{inl, inr, sym, ap, subst, ⊎_elim, arith}
+use Rattle.std.specs.Prelude.{Some, None, Result, Ok, Err, OnOk, OnErr, IsErrOf, refl}
+use Rattle.std.proofs.Common.{inl, inr, sym, ap, ◌∙◌, subst, ⊎_elim, arith}
 use Rattle.vdisk.specs.Causes.{Rose}
 use Rattle.vdisk.specs.declared.disk.Disk.{Ghosts}
 use Rattle.plain_volume.specs.Volume.{Volume}
@@ -44,6 +44,15 @@ flush_reply v wears before now (Err fault) worn refused rose = ⊎_elim
 pub flush_leaves : (v w : Volume) (r : Result (Unit {0}) Fault) → w ≡ v → w ≡ after v Flush (done_reply r)
 flush_leaves v w (Ok done) same = same
 flush_leaves v w (Err fault) same = same
+
+-- only a commit that failed stops the tables
+pub flush_stops : (b : Bool) (r : Result (Unit {0}) Fault) → OnOk r (b ≡ false)
+    → OnErr r (IsErrOf r Worn ⊎ IsErrOf r Failed) → (IsErrOf r Worn → b ≡ false) → b ≡ true → IsErrOf r Failed
+flush_stops b (Ok done) runs refused still is = absurd (let clash : true ≡ false = sym is ∙ runs in cc)
+flush_stops b (Err fault) runs refused still is = ⊎_elim
+    (λ worn. absurd (let clash : true ≡ false = sym is ∙ still worn in cc))
+    (λ failed. failed)
+    refused
 
 pub flush_want : (wears : Bool) → IsWant Flush (cond wears (Some Worn) None)
 flush_want true = refl

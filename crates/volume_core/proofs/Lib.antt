@@ -10,3 +10,7 @@ pub mod Hashed
 pub mod Written
 pub mod Bounds
 pub mod Adding
+pub mod Told
+pub mod Moving
+pub mod Stored
+pub mod Settled

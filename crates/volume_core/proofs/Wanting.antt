@@ -17,7 +17,8 @@ use Rattle.volume_files.specs.Wants.{Needs, wanting, has_room, free_of, last_id}
 use Rattle.volume_files.specs.Needs.{create_needs, write_needs, length_needs, rename_needs, delete_needs}
 use Rattle.volume_files.specs.Lengths.{for_file, length_of, length_wants}
 use Rattle.volume_files.specs.Writing.{write_wants}
-use Rattle.volume_core.specs.Wants.{IsWant, file_of}
+use Rattle.volume_core.specs.Wants.{IsWant}
+use Rattle.volume_core.proofs.Told.{file_of}
 
 -- the first of these that is wanting
 abbrev first_want : Bool → Bool → Bool → ℕ → ℕ → Bool → Option Fault

@@ -29,7 +29,7 @@ use Rattle.volume_files.specs.Wants.{reply_of, IsRepliedOrMemory}
 use Rattle.volume_files.specs.Writing.{AreWritten, write_wants}
 use Rattle.volume_files.proofs.Found.{names_in_order}
 use Rattle.volume_files.proofs.Wanted.{IsEarly, replied_early}
-use Rattle.volume_core.specs.Wants.{file_of}
+use Rattle.volume_core.proofs.Told.{file_of}
 use Rattle.volume_core.proofs.Answered.{file_is_whole}
 
 -- ---- outcomes

@@ -3,3 +3,5 @@ pub mod Wants
 pub mod Replies
 pub mod Sound
 pub mod Bounds
+pub mod States
+pub mod Moves

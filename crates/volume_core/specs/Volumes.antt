@@ -35,7 +35,7 @@ module _ {D : Type 0} {d : Ghosts D} where
   abbrev pub due_of : Mounted D d → ℕ
   due_of v = tables.due_of v.tables
 
-  -- each image that a crash now may leave shows w
+  -- each image that a crash now may leave spells the same tables and shows w: more than `Kept`, that each shows w
   abbrev pub IsKept : Mounted D d → Volume → Type 0
   IsKept v w = files.IsKept v.tables w
 

@@ -1,6 +1,6 @@
 //! Files are made, written, cut, renamed and dropped.
 
-ghost use Rattle.std.specs.Prelude.{◌≡◌, false, true, IsErrOf, OnErr};
+ghost use Rattle.std.specs.Prelude.{◌≡◌, ◌⊎◌, false, true, length, IsErrOf, OnErr};
 ghost use Rattle.vdisk.specs.Causes.{Rose};
 ghost use Rattle.plain_volume.specs.Volume.{Volume as PlainVolume};
 ghost use Rattle.plain_volume.specs.Replies.{done_reply};
@@ -13,6 +13,8 @@ use volume_files::{find_file, write_plain};
 
 impl<D: Disk> Volume<D> {
     ghost use Rattle.volume_core.specs.Volumes.{disk_of, view_now, stopped, IsKept, Endures};
+    ghost use Rattle.volume_core.specs.States.{state_of};
+    ghost use Rattle.volume_core.specs.Moves.{Moves, ReadsABlock};
     ghost use Rattle.volume_core.specs.Wants.{wants_of, IsWant};
     ghost use Rattle.volume_core.specs.Bounds.{Adds};
     ghost use Rattle.volume_core.specs.Replies.{Replies, RepliesOrMemory, Leaves};
@@ -25,6 +27,8 @@ impl<D: Disk> Volume<D> {
         ensures endures { Endures self.old self.new }
         ensures adds { Adds (Create name.now) self.old self.new }
         ensures stops { stopped self.new ≡ true → IsErrOf result Fault.Failed }
+        ensures moves { Moves (Create name.now) (done_reply result) (state_of self.old) (state_of self.new) }
+        ensures halts { IsErrOf result Fault.Failed → stopped self.new ≡ true }
         ensures want { IsWant (Create name.now) (wants_of self.old (Create name.now)) }
         ensures failed { IsErrOf result Fault.Failed → Rose (disk_of self.old).faults (disk_of self.new).faults }
     {
@@ -41,6 +45,10 @@ impl<D: Disk> Volume<D> {
         ensures endures { Endures self.old self.new }
         ensures adds { Adds (Write name.now at bytes.now) self.old self.new }
         ensures stops { stopped self.new ≡ true → IsErrOf result Fault.Failed }
+        ensures moves { (w : PlainVolume) → IsKept self.old w →
+            Moves (Write name.now at bytes.now) (done_reply result) (state_of self.old) (state_of self.new) }
+        ensures halts { IsErrOf result Fault.Failed → (stopped self.new ≡ true) ⊎
+            ReadsABlock name.now at (length bytes.now) (state_of self.old) }
         ensures want { IsWant (Write name.now at bytes.now) (wants_of self.old (Write name.now at bytes.now)) }
         ensures failed { IsErrOf result Fault.Failed → Rose (disk_of self.old).faults (disk_of self.new).faults }
     {
@@ -56,6 +64,8 @@ impl<D: Disk> Volume<D> {
         ensures endures { Endures self.old self.new }
         ensures adds { Adds (SetLength name.now length) self.old self.new }
         ensures stops { stopped self.new ≡ true → IsErrOf result Fault.Failed }
+        ensures moves { Moves (SetLength name.now length) (done_reply result) (state_of self.old) (state_of self.new) }
+        ensures halts { IsErrOf result Fault.Failed → stopped self.new ≡ true }
         ensures want { IsWant (SetLength name.now length) (wants_of self.old (SetLength name.now length)) }
         ensures failed { IsErrOf result Fault.Failed → Rose (disk_of self.old).faults (disk_of self.new).faults }
     {
@@ -70,6 +80,8 @@ impl<D: Disk> Volume<D> {
         ensures endures { Endures self.old self.new }
         ensures adds { Adds (Rename from.now to.now) self.old self.new }
         ensures stops { stopped self.new ≡ true → IsErrOf result Fault.Failed }
+        ensures moves { Moves (Rename from.now to.now) (done_reply result) (state_of self.old) (state_of self.new) }
+        ensures halts { IsErrOf result Fault.Failed → stopped self.new ≡ true }
         ensures want { IsWant (Rename from.now to.now) (wants_of self.old (Rename from.now to.now)) }
         ensures failed { IsErrOf result Fault.Failed → Rose (disk_of self.old).faults (disk_of self.new).faults }
     {
@@ -84,6 +96,8 @@ impl<D: Disk> Volume<D> {
         ensures endures { Endures self.old self.new }
         ensures adds { Adds (Delete name.now) self.old self.new }
         ensures stops { stopped self.new ≡ true → IsErrOf result Fault.Failed }
+        ensures moves { Moves (Delete name.now) (done_reply result) (state_of self.old) (state_of self.new) }
+        ensures halts { IsErrOf result Fault.Failed → stopped self.new ≡ true }
         ensures want { IsWant (Delete name.now) (wants_of self.old (Delete name.now)) }
         ensures failed { IsErrOf result Fault.Failed → Rose (disk_of self.old).faults (disk_of self.new).faults }
     {

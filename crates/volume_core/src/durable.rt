@@ -12,6 +12,8 @@ use vdisk::Disk;
 
 impl<D: Disk> Volume<D> {
     ghost use Rattle.volume_core.specs.Volumes.{device_of, disk_of, view_now, due_of, stopped, IsKept, Endures};
+    ghost use Rattle.volume_core.specs.States.{state_of, IsStateOf};
+    ghost use Rattle.volume_core.specs.Moves.{Moves};
     ghost use Rattle.volume_core.specs.Wants.{wants_of, IsWant};
     ghost use Rattle.volume_core.specs.Bounds.{Adds};
     ghost use Rattle.volume_core.specs.Replies.{Replies, Leaves};
@@ -23,11 +25,15 @@ impl<D: Disk> Volume<D> {
         ensures reply { Replies Flush self.old self.new (done_reply result) }
         ensures left { Leaves Flush self.old self.new (done_reply result) }
         ensures durable { (w : PlainVolume) → IsKept self.old w → OnOk result (IsKept self.new (view_now self.old)) }
+        ensures moves { Moves Flush (done_reply result) (state_of self.old) (state_of self.new) }
+        ensures stored { (w : PlainVolume) → IsKept self.old w →
+            OnOk result (IsStateOf (disk_of self.new).image (state_of self.new)) }
         ensures nothing_due { OnOk result (due_of self.new ≡ 0) }
         ensures idle { due_of self.old ≡ 0 → device_of self.new ≡ device_of self.old }
         ensures endures { Endures self.old self.new }
         ensures adds { Adds Flush self.old self.new }
         ensures stops { stopped self.new ≡ true → IsErrOf result Fault.Failed }
+        ensures halts { IsErrOf result Fault.Failed → stopped self.new ≡ true }
         ensures want { IsWant Flush (wants_of self.old Flush) }
         ensures failed { IsErrOf result Fault.Failed → Rose (disk_of self.old).faults (disk_of self.new).faults }
     {

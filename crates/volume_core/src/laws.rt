@@ -1,10 +1,12 @@
 //! Laws of a volume, each the contract of an empty function.
 
-ghost use Rattle.std.specs.Prelude.{◌≡◌, ℕ, Some};
+ghost use Rattle.std.specs.Prelude.{◌≡◌, ℕ, true, Some};
+ghost use Rattle.meta_log.specs.Meta.{last_epoch};
 ghost use Rattle.plain_volume.specs.Volume.{IsLawfulVolume};
 ghost use Rattle.plain_volume.specs.declared.call.Call.{Call};
 ghost use Rattle.plain_volume.specs.declared.call.Fault.{Fault};
 ghost use Rattle.volume_core.specs.Bounds.{HasSpent, IsSpent};
+ghost use Rattle.volume_core.specs.States.{state_of};
 ghost use Rattle.volume_core.specs.Volumes.{view_now};
 ghost use Rattle.volume_core.specs.Wants.{wants_of};
 
@@ -23,6 +25,13 @@ pub fn volume_is_lawful<D: Disk>(volume: &Volume<D>)
 pub fn what_is_wanting_is_spent<D: Disk>(volume: &Volume<D>)
     ensures { (b i : ℕ) (call : Call) (fault : Fault) → HasSpent volume.now b i →
         wants_of volume.now call ≡ Some fault → IsSpent volume.now b i call fault }
+{
+    let _tables = &volume.tables;
+}
+
+/// A commit is refused for want of an epoch only where the last one is taken.
+pub fn volumes_wear_at_the_last_epoch<D: Disk>(volume: &Volume<D>)
+    ensures { (state_of volume.now).wears ≡ true → (state_of volume.now).epoch ≡ last_epoch }
 {
     let _tables = &volume.tables;
 }

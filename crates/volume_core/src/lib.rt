@@ -9,6 +9,6 @@ mod opening;
 mod reads;
 mod volume;
 
-pub use laws::{volume_is_lawful, what_is_wanting_is_spent};
+pub use laws::{volume_is_lawful, volumes_wear_at_the_last_epoch, what_is_wanting_is_spent};
 pub use volume::Volume;
 pub use volume_tables::MountFault;

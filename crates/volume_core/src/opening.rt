@@ -24,6 +24,7 @@ use volume_tables::{MountFault, Tables};
 impl<D: Disk> Volume<D> {
     ghost use Rattle.volume_core.specs.Volumes.{device_of, disk_of, clusters_in, area_of, view_now, stopped, IsKept};
     ghost use Rattle.volume_core.specs.Bounds.{HasSpent};
+    ghost use Rattle.volume_core.specs.States.{state_of, IsStateOf, IsFreshState};
     ghost use Rattle.volume_core.specs.Wants.{wants_of};
 
     /// Makes an empty volume of so many clusters, from 4,096 to 1,048,576. A shorter disk grows; a longer one is
@@ -34,6 +35,7 @@ impl<D: Disk> Volume<D> {
         ensures kept { IsTrue (D.state disk).tells → IfOk result (λ v. IsKept v []) }
         ensures now { IfOk result (λ v. view_now v ≡ []) }
         ensures fresh { IfOk result (λ v. HasSpent v 0 0) }
+        ensures state { IfOk result (λ v. IsFreshState clusters (state_of v)) }
         ensures clusters { IfOk result (λ v. clusters_in v ≡ clusters) }
         ensures runs { IfOk result (λ v. stopped v ≡ false) }
         ensures moments { IsTrue (D.state disk).tells →
@@ -48,7 +50,7 @@ impl<D: Disk> Volume<D> {
         ensures same_err { IfErr result (λ e. D.is_same disk e.0) }
     {
         match Tables::format(alloc, disk, clusters) {
-            Ok(tables) => Ok(Volume { tables }),
+            Ok(fresh) => Ok(Volume { tables: fresh }),
             Err(fault) => Err(fault),
         }
     }
@@ -58,6 +60,8 @@ impl<D: Disk> Volume<D> {
     pub fn mount(alloc: Global, disk: D) -> Result<Volume<D>, (D, MountFault)>
         ensures inside { IsTrue (D.state disk).tells → IfOk result (λ v. (inside : Inside)
             × InsideOf read_meta (D.state disk).image (Ok inside) × (view inside ≡ view_now v)) }
+        ensures state { IsTrue (D.state disk).tells →
+            IfOk result (λ v. IsStateOf (D.state disk).image (state_of v)) }
         ensures kept { IsTrue (D.state disk).tells → IfOk result (λ v. IsKept v (view_now v)) }
         ensures runs { IfOk result (λ v. stopped v ≡ false) }
         ensures refused { IfErr result (λ e. IsMountFault (D.state disk) (D.state e.0) e.1) }
@@ -81,6 +85,8 @@ impl<D: Disk> Volume<D> {
             (disk_of self).faults (D.state e.0).faults (done_reply (Err e.1))) }
         ensures kept { (w : PlainVolume) → IsKept self w →
             IfOk result (λ disk. Kept (area_of self) (D.state disk) (view_now self)) }
+        ensures inside { (w : PlainVolume) → IsKept self w → IfOk result (λ disk.
+            InsideOf read_meta (D.state disk).image (Ok (state_of self).inside)) }
         ensures moments { (w : PlainVolume) → IsKept self w → IfOk result (λ disk.
             Keeps (disk_of self) (D.state disk) (ShowsEither (area_of self) w (view_now self))) }
         ensures moments_err { (w : PlainVolume) → IsKept self w → IfErr result (λ e.

@@ -37,6 +37,8 @@ fn shortened<'a>(after: Option<&'a [u8]>) -> Option<&'a [u8]>
 impl<D: Disk> Volume<D> {
     ghost use Rattle.volume_core.specs.Volumes.{disk_of, view_now, stopped, IsKept, Endures};
     ghost use Rattle.volume_core.specs.Bounds.{Adds};
+    ghost use Rattle.volume_core.specs.States.{state_of};
+    ghost use Rattle.volume_core.specs.Moves.{Moves};
     ghost use Rattle.volume_core.specs.Replies.{Replies, digest_reply, length_reply, name_reply};
 
     /// Fills the buffer from a place of a file. After a refusal `out` may hold anything. It takes no memory.
@@ -46,6 +48,8 @@ impl<D: Disk> Volume<D> {
             Replies (Read name.now at (length out.old)) self.old self.new (bytes_reply out.new result) }
         ensures refused { OnErr result (Replies (Read name.now at (length out.old)) self.old self.new
             (done_reply result)) }
+        ensures moves { Moves (Read name.now at (length out.old)) (bytes_reply out.new result) (state_of self.old)
+            (state_of self.new) }
         ensures left { view_now self.new ≡ view_now self.old }
         ensures endures { Endures self.old self.new }
         ensures adds { Adds (Read name.now at (length out.old)) self.old self.new }
@@ -65,6 +69,7 @@ impl<D: Disk> Volume<D> {
         ensures reply { (w : PlainVolume) → IsKept self.old w →
             Replies (Digest name.now) self.old self.new (digest_reply result) }
         ensures refused { OnErr result (Replies (Digest name.now) self.old self.new (digest_reply result)) }
+        ensures moves { Moves (Digest name.now) (digest_reply result) (state_of self.old) (state_of self.new) }
         ensures left { view_now self.new ≡ view_now self.old }
         ensures endures { Endures self.old self.new }
         ensures adds { Adds (Digest name.now) self.old self.new }

@@ -101,7 +101,7 @@ range_of_one k q = elim (cases_lt k.0 q.0) [
 tied_two : (q k : FileBlock) → (q ≡ k → ⊥) → eq_by_cmp pair_cmp q k ≡ false
 tied_two q k differ = elim (key_cases q k) [ inl one ↦ absurd (differ one.is) | inr two ↦ two.tied ]
 
-tied_one : (k : FileBlock) → eq_by_cmp pair_cmp k k ≡ true
+pub tied_one : (k : FileBlock) → eq_by_cmp pair_cmp k k ≡ true
 tied_one k = elim (key_cases k k) [ inl one ↦ one.tied | inr two ↦ absurd (two.differ refl) ]
 
 abbrev Entries : Type 0
@@ -118,7 +118,7 @@ found_beside q k e es differ =
     find-put pair_cmp pair_total q k e es
     ∙ ap (λ (t : Bool). cond t (Some e) (find pair_cmp q es)) (tied_two q k differ)
 
-same_found : (k : FileBlock) (es fs : Entries) → T (is_sorted pair_cmp es) → T (is_sorted pair_cmp fs)
+pub same_found : (k : FileBlock) (es fs : Entries) → T (is_sorted pair_cmp es) → T (is_sorted pair_cmp fs)
     → find pair_cmp k es ≡ find pair_cmp k fs
     → ((q : FileBlock) → (q ≡ k → ⊥) → find pair_cmp q es ≡ find pair_cmp q fs) → es ≡ fs
 same_found k es fs one two here there =

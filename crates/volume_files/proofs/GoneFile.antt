@@ -1,6 +1,6 @@
 -- A file that is deleted.
 use Rattle.std.specs.Prelude.{◌≡◌, ◌≤◌, ◌<◌, ◌+◌, ◌*◌, ◌/◌, ◌%◌, ℕ, Bool, true, false, cond, not, ◌&&◌, ◌==◌, T, List}
-use Rattle.std.specs.Prelude.{[], ◌∷◌, length, map, Option, Some, None, Ok, refl}
+use Rattle.std.specs.Prelude.{length, map, Option, Some, None, Ok, refl}
 use Rattle.std.proofs.Common.{◌∙◌, ap, sym, subst, arith, eq-eqb, ne_eqb, le-leb}
 use Rattle.std.specs.declared.cmp.Ordering.{Ordering}
 use Rattle.std.specs.declared.cmp.Ordering.TheVariants.{Less, Equal, Greater}
@@ -22,8 +22,8 @@ use Rattle.table_records.specs.Changes.{is_in_range}
 use Rattle.table_records.specs.Keys.{pair_cmp}
 use Rattle.table_records.specs.declared.records.FileRecord.{FileRecord}
 use Rattle.volume_inside.specs.Bases.{base_cell}
-use Rattle.volume_inside.specs.Changes.{DropsOnly, keep_files}
-use Rattle.volume_inside.specs.Entries.{Each, each_weaker}
+use Rattle.volume_inside.specs.Changes.{DropsOnly}
+use Rattle.volume_inside.specs.Entries.{each_weaker}
 use Rattle.volume_inside.specs.Inside.{Inside, inside_at}
 use Rattle.volume_inside.specs.Layout.{data_clusters}
 use Rattle.volume_inside.specs.Named.{clusters_of}
@@ -40,7 +40,7 @@ use Rattle.volume_tables.specs.declared.tables.Tables.{Tables}
 use Rattle.volume_files.specs.Found.{IsFileOf}
 use Rattle.volume_files.specs.Names.{is_other, without_name}
 use Rattle.volume_files.specs.Sound.{IsSound}
-use Rattle.volume_files.specs.Stages.{Stages, clusters_known}
+use Rattle.volume_files.specs.Stages.{Stages}
 use Rattle.volume_files.proofs.CutExtents.{range_is_behind}
 use Rattle.volume_files.proofs.Found.{names_in_order}
 use Rattle.volume_files.proofs.OneName.{only_name}

@@ -23,3 +23,6 @@ pub mod OtherName
 pub mod Written
 pub mod WriteReplies
 pub mod Spent
+pub mod Insides
+pub mod ReadFirst
+pub mod Ahead

@@ -4,10 +4,10 @@ use Rattle.std.specs.Prelude.{length, Option, Some, None, IsSome, IsSomeAnd, Res
 use Rattle.std.proofs.Common.{inl, inr, ◌∙◌, ap, sym, subst, arith}
 use Rattle.std.proofs.lemmas.Result.{on_ok_weaker, on_err_weaker}
 use Rattle.std.specs.declared.cmp.Ordering.{Ordering}
-use Rattle.std.specs.declared.cmp.Ordering.TheVariants.{Less, Equal, Greater}
-use Rattle.std.specs.Ordering.{nat_cmp, is_eq, is_le, is_lt, eq_by_cmp}
+use Rattle.std.specs.declared.cmp.Ordering.TheVariants.{Less, Greater}
+use Rattle.std.specs.Ordering.{nat_cmp, is_eq, is_le, is_lt}
 use Rattle.std.specs.Cmp.{nat_cmp_total, tied_itself, nat_cmp_is}
-use Rattle.std.specs.FinMap.{find, put, is_sorted, nat_cmp-IsAntisymmetric}
+use Rattle.std.specs.FinMap.{find, put, is_sorted}
 use Rattle.std.specs.FinMap.Entries.{by_order, where_key, find-put}
 use Rattle.byte_map.specs.Words.{bytes_cmp}
 use Rattle.vdisk.specs.declared.disk.Disk.{Ghosts}

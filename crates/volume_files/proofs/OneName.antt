@@ -1,17 +1,16 @@
 -- One name is dropped, as the range from it to the next one.
-use Rattle.std.specs.Prelude.{◌≡◌, ◌≤◌, ◌<◌, ◌+◌, ℕ, Bool, true, false, cond, not, ◌&&◌, T, List, [], ◌∷◌, length}
+use Rattle.std.specs.Prelude.{◌≡◌, ◌≤◌, ℕ, Bool, true, false, cond, not, ◌&&◌, T, List, [], ◌∷◌, length}
 use Rattle.std.specs.Prelude.{Option, Some, None, refl}
 use Rattle.std.proofs.Common.{◌∙◌, ap, sym, subst}
 use Rattle.std.specs.declared.cmp.Ordering.{Ordering}
 use Rattle.std.specs.declared.cmp.Ordering.TheVariants.{Less, Equal, Greater}
-use Rattle.std.specs.Ordering.{is_eq, is_le, is_lt, eq_by_cmp, ordering_reverse}
+use Rattle.std.specs.Ordering.{is_eq, is_le, is_lt, ordering_reverse}
 use Rattle.std.specs.Cmp.{tied_itself}
 use Rattle.std.specs.Cmp.Lexicographic.{nat_list_cmp_total}
 use Rattle.std.specs.FinMap.Entries.{where_key, below_all, is_sorted}
 use Rattle.std.specs.Option.{option_map}
 use Rattle.std.proofs.lemmas.Map.Lookups.{exact_bytes}
 use Rattle.byte_map.specs.Words.{bytes_cmp, first_of, next_in}
-use Rattle.plain_volume.specs.Volume.{is_lawful}
 use Rattle.table_records.specs.Changes.{is_under, is_in_range}
 use Rattle.volume_inside.specs.Changes.{DropsOnly}
 use Rattle.volume_inside.specs.Entries.{Each, each_weaker}

@@ -98,6 +98,26 @@ module _ (n : ℕ) (S : List State) (t : Typed) (held : AreHeld n S t) (size : l
         (set_here taken (o.cluster - first_data_cluster n) Deferred (old_used o found).within);
   }
 
+  -- another free cluster stays free
+  pub replaced_others : (x : ℕ) → (x ≡ c → ⊥) → HasState n S Free x → (was : Option Extent)
+      → find pair_cmp k t.extents ≡ was → HasState n (with_replaced n was c taken) Free x
+  replaced_others x differ has was found = record { from_first = has.from_first; is = by was found }
+    where
+      spot : x - first_data_cluster n ≢ place
+      spot same = differ (omega (arith, same, has.from_first, free.from_first))
+
+      still : IsIn taken (x - first_data_cluster n) Free
+      still = set_there S place (x - first_data_cluster n) Used Free spot has.is
+
+      by : (was : Option Extent) → find pair_cmp k t.extents ≡ was
+          → IsIn (with_replaced n was c taken) (x - first_data_cluster n) Free
+      by None found = still
+      by (Some o) found =
+          let apart = places_differ taken (x - first_data_cluster n) (o.cluster - first_data_cluster n) Free Used
+          free_is_not_used still (old_used o found) in
+          subst (λ (xs : List State). IsIn xs (x - first_data_cluster n) Free) (sym (replaced_is o found))
+          (set_there taken (o.cluster - first_data_cluster n) (x - first_data_cluster n) Deferred Free apart still)
+
   pub replaced_fewer : (was : Option Extent) → find pair_cmp k t.extents ≡ was
       → IsNoFreer S (with_replaced n was c taken)
   replaced_fewer None found = taken_no_freer S place free.is

@@ -101,7 +101,7 @@ extents_then file index to a b c e low set more = record {
 
 -- ---- cells
 
-find-blocks : (k : FileBlock) (es : List (FileBlock × Extent)) (image : List ℕ)
+pub find-blocks : (k : FileBlock) (es : List (FileBlock × Extent)) (image : List ℕ)
     → find pair_cmp k (blocks_of es image) ≡ option_map (λ e. block_of e image) (find pair_cmp k es)
 find-blocks k [] image = refl
 find-blocks k (x ∷ es) image =

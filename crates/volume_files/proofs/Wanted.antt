@@ -1,13 +1,11 @@
 -- What is wanting for a call, and the replies that follow from it.
-use Rattle.std.specs.Prelude.{◌≡◌, ◌⊎◌, ◌≤◌, ◌<◌, ◌+◌, ◌-◌, ◌&&◌, ℕ, Bool, true, false, not, cond, nat_eq, nat_le, nat_lt, IsTrue, length, Option, Some, None, Result, Ok, Err, OnOk, OnErr, IfErr, IsOk, IsErrOf, refl}
+use Rattle.std.specs.Prelude.{◌≡◌, ◌⊎◌, ◌≤◌, ◌<◌, ◌+◌, ◌&&◌, ℕ, Bool, true, false, not, cond, nat_eq, nat_le, nat_lt, IsTrue, length, Option, Some, None, Result, Ok, Err, OnOk, OnErr, IfErr, IsOk, IsErrOf, refl}
 use Rattle.std.proofs.Common.{inl, inr, sym, ◌∙◌, ap, subst, ⊎_elim, arith, leb-true, le-leb, ltb-true, ltb-false, lt-ltb, le-ltb, eqb-true, eq-eqb}
 use Rattle.vdisk.specs.Causes.{Rose}
 use Rattle.vdisk.specs.declared.disk.Disk.{Ghosts}
 use Rattle.cluster_space.specs.States.{free_in, deferred_in}
 use Rattle.plain_volume.specs.Volume.{Volume}
-use Rattle.plain_volume.specs.Step.{Outcome, plain, after}
-use Rattle.plain_volume.specs.Replies.{own_reply}
-use Rattle.plain_volume.specs.declared.call.Call.{Call}
+use Rattle.plain_volume.specs.Step.{Outcome}
 use Rattle.plain_volume.specs.declared.call.Reply.{Reply}
 use Rattle.plain_volume.specs.declared.call.Reply.TheVariants as reply
 use Rattle.plain_volume.specs.declared.call.Fault.{Fault}

@@ -8,3 +8,5 @@ pub mod Reads
 pub mod Lengths
 pub mod Stages
 pub mod Spending
+pub mod Insides
+pub mod Rows

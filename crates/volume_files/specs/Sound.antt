@@ -23,7 +23,8 @@ module _ {D : Type 0} {d : Ghosts D} where
         free_in (states_of t) + deferred_in (states_of t) + length (clusters_of (tables_now t))
         ≡ data_clusters (clusters_in t)
 
-  -- each image that a crash now may leave spells stored tables, and shows w
+  -- THE STRONGER INVARIANT: w is kept as the definition says (`Kept`: each image that a crash now may leave has an
+  -- inside and shows w), and each of these images spells the stored tables, which name no free cluster.
   pub record IsKept (t : Tables D d) (w : Volume) : Type 0 where
     pub stored : Typed
     pub tables : IsTables t stored

@@ -3,7 +3,9 @@ use Rattle.std.specs.Prelude.{◌≡◌, ◌≤◌, ◌&&◌, ◌<◌, ◌+◌, 
 use Rattle.std.specs.Prelude.{nat_le, Option, Some, None, IsSome, if◌then◌else◌}
 use Rattle.std.specs.Ordering.{nat_cmp}
 use Rattle.std.specs.FinMap.{find, put}
+use Rattle.vdisk.specs.Ranges.{part}
 use Rattle.vdisk.specs.declared.disk.Disk.{Ghosts}
+use Rattle.cluster_space.specs.declared.run.Run.{Run}
 use Rattle.cluster_space.specs.declared.state.State.{State}
 use Rattle.cluster_space.specs.declared.state.State.TheVariants.{Free, Deferred}
 use Rattle.cluster_space.specs.States.{IsIn, free_in, deferred_in}
@@ -13,7 +15,7 @@ use Rattle.table_records.specs.Keys.{pair_cmp}
 use Rattle.table_records.specs.declared.records.Extent.{Extent}
 use Rattle.table_records.specs.declared.records.FileRecord.{FileRecord}
 use Rattle.volume_inside.specs.Typed.{Typed, FileBlock}
-use Rattle.volume_inside.specs.Inside.{block_of}
+use Rattle.volume_inside.specs.Inside.{block_of, cluster_bytes}
 use Rattle.volume_inside.specs.Layout.{IsDataCluster}
 use Rattle.volume_inside.specs.Named.{clusters_of}
 use Rattle.volume_tables.specs.Tables.{tables_now, states_of, stopped}
@@ -40,6 +42,27 @@ laid_from from at bytes p old =
 -- how many blocks there are from one on up to a place
 abbrev pub blocks_up_to : ℕ → ℕ → ℕ
 blocks_up_to to index = (to + 4095) / 4096 - index
+
+-- ---- clusters that were written ahead, one for each block of a file from the one on that begins at `start`
+
+-- each of so many blocks is filled by n bytes at a place of the file
+abbrev pub AreFilled : ℕ → ℕ → ℕ → ℕ → Type 0
+AreFilled start at n count =
+    (k : ℕ) → k < count → (at ≤ start + 4096 * k) × (start + 4096 * k + 4096 ≤ at + n)
+
+-- each cluster of the run has its part of the bytes
+abbrev pub AreAhead : ℕ → ℕ → List ℕ → Run → List ℕ → Type 0
+AreAhead start at bytes run image =
+    (k : ℕ) → k < run.count → cluster_bytes (run.first + k) image ≡ part (start + 4096 * k - at) 4096 bytes
+
+-- a run without its first cluster
+abbrev pub rest_of : Run → Run
+rest_of run = record { first = run.first + 1; count = run.count - 1 }
+
+-- a cluster has the block as it is once the bytes were written: an extent named what stood there in an older image
+abbrev pub HasLaid : ℕ → ℕ → List ℕ → Option Extent → List ℕ → List ℕ → ℕ → Type 0
+HasLaid start at bytes was older image cluster = (o : ℕ) → o < 4096 → get_or (cluster_bytes cluster image) o 0
+    ≡ laid at bytes (start + o) (get_or (named_bytes was older) o 0)
 
 -- ---- tables
 
@@ -73,6 +96,19 @@ pub record IsWritten (file from to : ℕ) (old new : Typed) : Type 0 where
 abbrev pub AreWritten : ℕ → ℕ → List ℕ → Typed → Typed → Type 0
 AreWritten file at [] old new = new ≡ old
 AreWritten file at (b ∷ bytes) old new = IsWritten file at (at + length (b ∷ bytes)) old new
+
+-- ---- blocks that are read
+
+-- bytes at a place of a file do not fill its block that begins at `start`, and that has bytes, which are read first
+pub record IsReadFirst (start at count : ℕ) (was : Option Extent) : Type 0 where
+  pub unfilled : (at ≤ start) × (start + 4096 ≤ at + count) → ⊥
+  pub there : IsSome was
+
+-- so it is with one of the blocks from a place of the file on that the bytes touch
+pub record ReadsFirst (file from at count : ℕ) (t : Typed) : Type 0 where
+  pub index : ℕ
+  pub touched : IsTouched file from (at + count) (file, index)
+  pub read : IsReadFirst (4096 * index) at count (find pair_cmp (file, index) t.extents)
 
 -- ---- clusters
 

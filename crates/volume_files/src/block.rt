@@ -1,11 +1,11 @@
 //! A block of a file is made anew and set.
 
 ghost use Rattle.std.specs.Prelude.{◌≡◌, ◌⊎◌, ◌↔◌, ◌≤◌, ◌<◌, ◌+◌, ◌-◌, ◌*◌, ◌^◌, ℕ, length, slice_index, ◌++◌, true};
-ghost use Rattle.std.specs.Prelude.{false, min, take, drop, IfOk, IfSome, OnOk, OnErr, IsErrOf, IsTrue, Some};
+ghost use Rattle.std.specs.Prelude.{false, min, take, drop, IfOk, IfSome, IsSome, OnOk, OnErr, IsErrOf, IsTrue, Some};
 ghost use Rattle.std.specs.FinMap.{find};
 ghost use Rattle.vdisk.specs.Causes.{Rose};
 ghost use Rattle.cluster_space.specs.States.{IsIn, free_in};
-ghost use Rattle.cluster_space.specs.declared.state.State.TheVariants.{Deferred};
+ghost use Rattle.cluster_space.specs.declared.state.State.TheVariants.{Deferred, Free};
 ghost use Rattle.table_records.specs.Keys.{pair_cmp};
 ghost use Rattle.table_records.specs.declared.records.Extent.{Extent};
 ghost use Rattle.volume_inside.specs.Changes.{with_block, with_extent, with_file};
@@ -14,11 +14,14 @@ ghost use Rattle.volume_inside.specs.Layout.{half_bytes};
 ghost use Rattle.volume_inside.specs.Rules.{RulesHold};
 ghost use Rattle.volume_inside.specs.Typed.{Typed};
 ghost use Rattle.volume_tables.specs.Clusters.{HasState};
-ghost use Rattle.volume_tables.specs.Frames.{NamesNoFree};
+ghost use Rattle.volume_tables.specs.Frames.{AreFree, NamesNoFree};
 ghost use Rattle.volume_tables.specs.Tables.{tables_now, inside_now, states_of, staged_of, checkpoint_of, disk_of};
 ghost use Rattle.volume_tables.specs.Tables.{clusters_in, stopped, new_bytes, IsTables, Leaves};
-ghost use Rattle.volume_files.specs.Writing.{laid, named_bytes, IsReadable, IsNoFreer, LosesNone};
+ghost use Rattle.volume_files.specs.Insides.{block_written};
+ghost use Rattle.volume_files.specs.Writing.{laid, named_bytes, rest_of, AreAhead, AreFilled, HasLaid, IsReadable};
+ghost use Rattle.volume_files.specs.Writing.{IsReadFirst, IsNoFreer, LosesNone};
 
+use cluster_space::Run;
 use plain_volume::Fault;
 use vdisk::Disk;
 use volume_tables::{Extent, FileRecord, Tables};
@@ -92,6 +95,7 @@ fn read_block<D: Disk>(
     ensures running { stopped tables.new ≡ stopped tables.old }
     ensures failed { OnErr result (IsErrOf result Fault.Failed ×
         Rose (disk_of tables.old).faults (disk_of tables.new).faults) }
+    ensures read { OnErr result (IsSome was) }
 {
     match was {
         None => Ok(()),
@@ -136,6 +140,7 @@ fn block_with<D: Disk>(
     ensures running { stopped tables.new ≡ stopped tables.old }
     ensures failed { OnErr result (IsErrOf result Fault.Failed ×
         Rose (disk_of tables.old).faults (disk_of tables.new).faults) }
+    ensures read { OnErr result (IsReadFirst start at (length bytes.now) was) }
 {
     let beside = if fills(start, at, bytes.len()) {
         None
@@ -148,26 +153,151 @@ fn block_with<D: Disk>(
     Ok(block)
 }
 
-/// Writes a block into a free cluster and names that as the block of a key, of which `valid` bytes are the file's.
-/// Answers the new extent.
-fn set_block<D: Disk>(
+/// Writes the block that begins at `start` into a free cluster, as it is once bytes were written at the place `at` of
+/// the file, which do not fill it; its extent was `was`. Answers the run of that cluster.
+fn write_alone<D: Disk>(
+    tables: &mut Tables<D>,
+    was: Option<Extent>,
+    start: u64,
+    at: u64,
+    bytes: &[u8],
+) -> Result<Run, Fault>
+    requires running { stopped tables.old ≡ false }
+    requires readable { IfSome was (IsReadable tables.old.clusters) }
+    requires short { length bytes.now ≤ 1048576 }
+    requires low { at ≤ 1073741824 }
+    requires block_low { start ≤ 1073741824 }
+    requires before { at < start + 4096 }
+    requires behind { start < at + length bytes.now }
+    requires some { 0 < free_in (states_of tables.old) }
+    ensures one { IfOk result (λ run. run.count ≡ 1) }
+    ensures free { IfOk result (λ run. AreFree tables.old.clusters (states_of tables.old) run) }
+    ensures block { (stored : Typed) → IsTables tables.old stored → IfOk result (λ run. HasLaid start at bytes.now was
+        (disk_of tables.old).image (disk_of tables.new).image run.first) }
+    ensures now { tables_now tables.new ≡ tables_now tables.old }
+    ensures states { states_of tables.new ≡ states_of tables.old }
+    ensures same { inside_now tables.new ≡ inside_now tables.old }
+    ensures frame { (t : Typed) → NamesNoFree tables.old.clusters (states_of tables.old) t →
+        inside_at t (disk_of tables.new).image ≡ inside_at t (disk_of tables.old).image }
+    ensures leaves { Leaves tables.old tables.new }
+    ensures staged { staged_of tables.new ≡ staged_of tables.old }
+    ensures checkpoint { checkpoint_of tables.new ≡ checkpoint_of tables.old }
+    ensures runs { OnOk result (stopped tables.new ≡ false) }
+    ensures failed { OnErr result (IsErrOf result Fault.Failed ×
+        Rose (disk_of tables.old).faults (disk_of tables.new).faults) }
+    ensures halts { OnErr result ((stopped tables.new ≡ true) ⊎ IsReadFirst start at (length bytes.now) was) }
+{
+    let block = block_with(tables, was, start, at, bytes)?;
+    tables.write_free_run(&block)
+}
+
+/// Writes the blocks from the one on that begins at `start`, which bytes fill that belong at the place `at` of the
+/// file, into free clusters, at once: as many as are found beside one another.
+fn write_filled<D: Disk>(
+    tables: &mut Tables<D>,
+    start: u64,
+    at: u64,
+    bytes: &[u8],
+) -> Result<Run, Fault>
+    requires running { stopped tables.old ≡ false }
+    requires short { length bytes.now ≤ 1048576 }
+    requires low { at ≤ start }
+    requires filled { start + 4096 ≤ at + length bytes.now }
+    requires some { 0 < free_in (states_of tables.old) }
+    ensures some { IfOk result (λ run. 0 < run.count) }
+    ensures free { IfOk result (λ run. AreFree tables.old.clusters (states_of tables.old) run) }
+    ensures filled { IfOk result (λ run. AreFilled start at (length bytes.now) run.count) }
+    ensures ahead { (stored : Typed) → IsTables tables.old stored → IfOk result (λ run.
+        AreAhead start at bytes.now run (disk_of tables.new).image) }
+    ensures now { tables_now tables.new ≡ tables_now tables.old }
+    ensures states { states_of tables.new ≡ states_of tables.old }
+    ensures same { inside_now tables.new ≡ inside_now tables.old }
+    ensures frame { (t : Typed) → NamesNoFree tables.old.clusters (states_of tables.old) t →
+        inside_at t (disk_of tables.new).image ≡ inside_at t (disk_of tables.old).image }
+    ensures leaves { Leaves tables.old tables.new }
+    ensures staged { staged_of tables.new ≡ staged_of tables.old }
+    ensures checkpoint { checkpoint_of tables.new ≡ checkpoint_of tables.old }
+    ensures runs { OnOk result (stopped tables.new ≡ false) }
+    ensures failed { OnErr result (IsErrOf result Fault.Failed ×
+        Rose (disk_of tables.old).faults (disk_of tables.new).faults) }
+    ensures stops { OnErr result (stopped tables.new ≡ true) }
+{
+    tables.write_free_run(&bytes[(start - at) as usize..])
+}
+
+/// Sees to it that a free cluster has the block of a file that begins at `start`, as it is once bytes were written at
+/// the place `at` of the file; its extent was `was`. Such a cluster was written ahead, or it is written now, and those
+/// of the blocks behind it which the bytes fill with it. Answers the clusters written ahead, from this block on.
+fn write_ahead<D: Disk>(
+    tables: &mut Tables<D>,
+    was: Option<Extent>,
+    start: u64,
+    at: u64,
+    bytes: &[u8],
+    ahead: Run,
+) -> Result<Run, Fault>
+    requires running { stopped tables.old ≡ false }
+    requires readable { IfSome was (IsReadable tables.old.clusters) }
+    requires short { length bytes.now ≤ 1048576 }
+    requires low { at ≤ 1073741824 }
+    requires block_low { start ≤ 1073741824 }
+    requires before { at < start + 4096 }
+    requires behind { start < at + length bytes.now }
+    requires some { 0 < free_in (states_of tables.old) }
+    requires free { AreFree tables.old.clusters (states_of tables.old) ahead }
+    requires filled { AreFilled start at (length bytes.now) ahead.count }
+    ensures some { IfOk result (λ run. 0 < run.count) }
+    ensures free { IfOk result (λ run. AreFree tables.old.clusters (states_of tables.old) run) }
+    ensures filled { IfOk result (λ run. AreFilled (start + 4096) at (length bytes.now) (run.count - 1)) }
+    ensures block { (stored : Typed) → IsTables tables.old stored →
+        AreAhead start at bytes.now ahead (disk_of tables.old).image → IfOk result (λ run. HasLaid start at bytes.now was
+        (disk_of tables.old).image (disk_of tables.new).image run.first) }
+    ensures ahead { (stored : Typed) → IsTables tables.old stored →
+        AreAhead start at bytes.now ahead (disk_of tables.old).image → IfOk result (λ run.
+        AreAhead (start + 4096) at bytes.now (rest_of run) (disk_of tables.new).image) }
+    ensures now { tables_now tables.new ≡ tables_now tables.old }
+    ensures states { states_of tables.new ≡ states_of tables.old }
+    ensures same { inside_now tables.new ≡ inside_now tables.old }
+    ensures frame { (t : Typed) → NamesNoFree tables.old.clusters (states_of tables.old) t →
+        inside_at t (disk_of tables.new).image ≡ inside_at t (disk_of tables.old).image }
+    ensures leaves { Leaves tables.old tables.new }
+    ensures staged { staged_of tables.new ≡ staged_of tables.old }
+    ensures checkpoint { checkpoint_of tables.new ≡ checkpoint_of tables.old }
+    ensures runs { OnOk result (stopped tables.new ≡ false) }
+    ensures failed { OnErr result (IsErrOf result Fault.Failed ×
+        Rose (disk_of tables.old).faults (disk_of tables.new).faults) }
+    ensures halts { OnErr result ((stopped tables.new ≡ true) ⊎ IsReadFirst start at (length bytes.now) was) }
+{
+    if ahead.count > 0 {
+        return Ok(ahead);
+    }
+    if fills(start, at, bytes.len()) {
+        return write_filled(tables, start, at, bytes);
+    }
+    write_alone(tables, was, start, at, bytes)
+}
+
+/// Takes a free cluster and names it as the block of a key, of which `valid` bytes are the file's. Answers the new
+/// extent.
+fn name_block<D: Disk>(
     tables: &mut Tables<D>,
     key: (u64, u32),
-    block: &[u8; 4096],
+    cluster: u32,
     valid: u16,
 ) -> Result<Extent, Fault>
     requires running { stopped tables.old ≡ false }
-    requires some { 0 < free_in (states_of tables.old) }
+    requires some { HasState tables.old.clusters (states_of tables.old) Free cluster }
     requires room { staged_of tables.old + 24 ≤ 65472 }
     requires fits { checkpoint_of tables.old + new_bytes (find pair_cmp key (tables_now tables.old).extents) 24
         ≤ half_bytes tables.old.clusters }
     ensures ok { IfOk result (λ e. tables_now tables.new ≡ with_extent key e (tables_now tables.old)) }
     ensures err { OnErr result (tables_now tables.new ≡ tables_now tables.old) }
     ensures valid { IfOk result (λ e. e.valid ≡ valid) }
-    ensures written { (stored : Typed) → IsTables tables.old stored →
-        IfOk result (λ e. block_of e (disk_of tables.new).image ≡ take valid block.now) }
-    ensures frame { (t : Typed) → NamesNoFree tables.old.clusters (states_of tables.old) t →
-        inside_at t (disk_of tables.new).image ≡ inside_at t (disk_of tables.old).image }
+    ensures cluster { IfOk result (λ e. e.cluster ≡ cluster) }
+    ensures image { (disk_of tables.new).image ≡ (disk_of tables.old).image }
+    ensures others { OnOk result ((c : ℕ) → (c ≡ cluster → ⊥) →
+        HasState tables.old.clusters (states_of tables.old) Free c →
+        HasState tables.new.clusters (states_of tables.new) Free c) }
     ensures leaves { Leaves tables.old tables.new }
     ensures replaced { IfOk result (λ e. (o : Extent) →
         find pair_cmp key (tables_now tables.old).extents ≡ Some o →
@@ -182,16 +312,24 @@ fn set_block<D: Disk>(
     ensures stops { stopped tables.new ≡ true → IsErrOf result Fault.Failed }
     ensures refused { OnErr result (IsErrOf result Fault.Failed ⊎ IsErrOf result Fault.Memory) }
     ensures failed { IsErrOf result Fault.Failed → Rose (disk_of tables.old).faults (disk_of tables.new).faults }
+    ensures halts { IsErrOf result Fault.Failed → stopped tables.new ≡ true }
 {
-    let cluster = tables.write_cluster(block)?;
+    tables.take_free(cluster);
     let extent = Extent { cluster, valid };
     tables.set_extent(key, extent)?;
     Ok(extent)
 }
 
+/// A block that was written: its new extent, and the clusters that were written ahead for the blocks behind it.
+#[derive(Clone, Copy)]
+pub(crate) struct Written {
+    pub(crate) extent: Extent,
+    pub(crate) ahead: Run,
+}
+
 /// Writes the part of bytes that belong at the place `at` of a file which lies in one of its blocks: `key` is the
-/// file's id and the block's number, `was` the block's extent. The file is as long as its record `grown` says. Answers
-/// the new extent.
+/// file's id and the block's number, `was` the block's extent. The file is as long as its record `grown` says, and
+/// `ahead` are clusters that were written ahead, for this block and those behind it.
 pub(crate) fn write_block<D: Disk>(
     tables: &mut Tables<D>,
     key: (u64, u32),
@@ -199,7 +337,8 @@ pub(crate) fn write_block<D: Disk>(
     grown: FileRecord,
     at: u64,
     bytes: &[u8],
-) -> Result<Extent, Fault>
+    ahead: Run,
+) -> Result<Written, Fault>
     requires running { stopped tables.old ≡ false }
     requires is { was ≡ find pair_cmp key (tables_now tables.old).extents }
     requires rules { RulesHold tables.old.clusters (with_file key.0 grown (tables_now tables.old)) }
@@ -211,18 +350,30 @@ pub(crate) fn write_block<D: Disk>(
     requires some { 0 < free_in (states_of tables.old) }
     requires room { staged_of tables.old + 24 ≤ 65472 }
     requires fits { checkpoint_of tables.old + new_bytes was 24 ≤ half_bytes tables.old.clusters }
-    ensures ok { IfOk result (λ e. tables_now tables.new ≡ with_extent key e (tables_now tables.old)) }
+    requires free { AreFree tables.old.clusters (states_of tables.old) ahead }
+    requires filled { AreFilled (4096 * key.1) at (length bytes.now) ahead.count }
+    ensures ok { IfOk result (λ w. tables_now tables.new ≡ with_extent key w.extent (tables_now tables.old)) }
     ensures err { OnErr result (tables_now tables.new ≡ tables_now tables.old) }
+    ensures free_ahead { IfOk result (λ w. AreFree tables.new.clusters (states_of tables.new) w.ahead) }
+    ensures filled { IfOk result (λ w. AreFilled (4096 * (key.1 + 1)) at (length bytes.now) w.ahead.count) }
+    ensures ahead { (stored : Typed) → IsTables tables.old stored →
+        AreAhead (4096 * key.1) at bytes.now ahead (disk_of tables.old).image → IfOk result (λ w.
+        AreAhead (4096 * (key.1 + 1)) at bytes.now w.ahead (disk_of tables.new).image) }
     ensures rules { RulesHold tables.new.clusters (with_file key.0 grown (tables_now tables.new)) }
-    ensures inside { IfOk result (λ e. inside_now tables.new ≡
-        with_block key (block_of e (disk_of tables.new).image) (inside_now tables.old)) }
-    ensures written { (stored : Typed) → IsTables tables.old stored → IfOk result (λ e. (o : ℕ) → o < 4096 →
-        4096 * key.1 + o < grown.length → slice_index (block_of e (disk_of tables.new).image) o ≡
+    ensures inside { IfOk result (λ w. inside_now tables.new ≡
+        with_block key (block_of w.extent (disk_of tables.new).image) (inside_now tables.old)) }
+    ensures written { (stored : Typed) → IsTables tables.old stored →
+        AreAhead (4096 * key.1) at bytes.now ahead (disk_of tables.old).image → IfOk result (λ w. (o : ℕ) → o < 4096 →
+        4096 * key.1 + o < grown.length → slice_index (block_of w.extent (disk_of tables.new).image) o ≡
         laid at bytes.now (4096 * key.1 + o) (slice_index (named_bytes was (disk_of tables.old).image) o)) }
+    ensures block { (stored : Typed) → IsTables tables.old stored →
+        AreAhead (4096 * key.1) at bytes.now ahead (disk_of tables.old).image → IfOk result (λ w.
+        block_of w.extent (disk_of tables.new).image ≡ block_written grown.length at bytes.now key.1
+        (find pair_cmp key (inside_now tables.old).blocks)) }
     ensures frame { (t : Typed) → NamesNoFree tables.old.clusters (states_of tables.old) t →
         inside_at t (disk_of tables.new).image ≡ inside_at t (disk_of tables.old).image }
     ensures leaves { Leaves tables.old tables.new }
-    ensures replaced { IfOk result (λ e. (o : Extent) → was ≡ Some o →
+    ensures replaced { IfOk result (λ w. (o : Extent) → was ≡ Some o →
         HasState tables.new.clusters (states_of tables.new) Deferred o.cluster) }
     ensures fewer { IsNoFreer (states_of tables.old) (states_of tables.new) }
     ensures free { OnOk result (free_in (states_of tables.new) + 1 ≡ free_in (states_of tables.old)) }
@@ -233,9 +384,18 @@ pub(crate) fn write_block<D: Disk>(
     ensures stops { stopped tables.new ≡ true → IsErrOf result Fault.Failed }
     ensures refused { OnErr result (IsErrOf result Fault.Failed ⊎ IsErrOf result Fault.Memory) }
     ensures failed { IsErrOf result Fault.Failed → Rose (disk_of tables.old).faults (disk_of tables.new).faults }
+    ensures halts { IsErrOf result Fault.Failed →
+        (stopped tables.new ≡ true) ⊎ IsReadFirst (4096 * key.1) at (length bytes.now) was }
 {
     let start = BLOCK * key.1 as u64;
-    let block = block_with(tables, was, start, at, bytes)?;
+    let ready = write_ahead(tables, was, start, at, bytes, ahead)?;
     let valid = BLOCK.min(grown.length - start) as u16;
-    set_block(tables, key, &block, valid)
+    let extent = name_block(tables, key, ready.first, valid)?;
+    Ok(Written {
+        extent,
+        ahead: Run {
+            first: ready.first + 1,
+            count: ready.count - 1,
+        },
+    })
 }

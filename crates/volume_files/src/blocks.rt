@@ -16,14 +16,16 @@ ghost use Rattle.volume_inside.specs.Rules.{RulesHold};
 ghost use Rattle.volume_inside.specs.Typed.{Typed};
 ghost use Rattle.volume_inside.specs.View.{cell};
 ghost use Rattle.volume_tables.specs.Clusters.{HasState};
-ghost use Rattle.volume_tables.specs.Frames.{NamesNoFree};
+ghost use Rattle.volume_tables.specs.Frames.{AreFree, NamesNoFree};
 ghost use Rattle.volume_tables.specs.Tables.{tables_now, inside_now, states_of, staged_of, checkpoint_of, disk_of};
 ghost use Rattle.volume_tables.specs.Tables.{stopped, IsTables, Leaves};
+ghost use Rattle.volume_files.specs.Insides.{blocks_written, with_blocks};
 ghost use Rattle.volume_files.specs.Needs.{missing};
 ghost use Rattle.volume_files.specs.Spending.{Spends};
-ghost use Rattle.volume_files.specs.Writing.{blocks_up_to, laid_from, AreExtentsSet, LosesNone};
+ghost use Rattle.volume_files.specs.Writing.{blocks_up_to, laid_from, AreAhead, AreExtentsSet, AreFilled, LosesNone, ReadsFirst};
 
 use crate::block::{BLOCK, write_block};
+use cluster_space::Run;
 use plain_volume::Fault;
 use vdisk::Disk;
 use volume_tables::{Extent, FileRecord, Tables};
@@ -53,7 +55,8 @@ fn take_back<D: Disk>(tables: &mut Tables<D>, key: (u64, u32), was: Option<Exten
 }
 
 /// Writes the part of bytes that belong at the place `at` of a file which lies in its blocks from `index` on. The file
-/// is as long as its record `grown` says. A refusal leaves the tables as they are.
+/// is as long as its record `grown` says, and `ahead` are clusters that were written ahead for these blocks. A refusal
+/// leaves the tables as they are. It calls itself once for each block, at most 257 times.
 pub(crate) fn write_blocks<D: Disk>(
     tables: &mut Tables<D>,
     file: u64,
@@ -61,6 +64,7 @@ pub(crate) fn write_blocks<D: Disk>(
     at: u64,
     bytes: &[u8],
     index: u32,
+    ahead: Run,
 ) -> Result<(), Fault>
     requires running { stopped tables.old ≡ false }
     requires rules { RulesHold tables.old.clusters (with_file file grown (tables_now tables.old)) }
@@ -73,15 +77,22 @@ pub(crate) fn write_blocks<D: Disk>(
     requires fits { checkpoint_of tables.old +
         24 * missing (tables_now tables.old) file index (blocks_up_to (at + length bytes.now) index)
         ≤ half_bytes tables.old.clusters }
+    requires free { AreFree tables.old.clusters (states_of tables.old) ahead }
+    requires filled { AreFilled (4096 * index) at (length bytes.now) ahead.count }
     ensures ok { OnOk result (AreExtentsSet file (4096 * index) (at + length bytes.now)
         (tables_now tables.old) (tables_now tables.new)) }
     ensures err { OnErr result (tables_now tables.new ≡ tables_now tables.old) }
     ensures rules { OnOk result (RulesHold tables.new.clusters (with_file file grown (tables_now tables.new))) }
     ensures others { OnOk result ((other p : ℕ) (record_of : FileRecord) → (other ≡ file → ⊥) →
         cell (inside_now tables.new) other record_of p ≡ cell (inside_now tables.old) other record_of p) }
-    ensures cells { (stored : Typed) → IsTables tables.old stored → OnOk result ((p : ℕ) → p < grown.length →
+    ensures cells { (stored : Typed) → IsTables tables.old stored →
+        AreAhead (4096 * index) at bytes.now ahead (disk_of tables.old).image → OnOk result ((p : ℕ) → p < grown.length →
         cell (inside_now tables.new) file grown p ≡
         laid_from (4096 * index) at bytes.now p (cell (inside_now tables.old) file grown p)) }
+    ensures inside { (stored : Typed) → IsTables tables.old stored →
+        AreAhead (4096 * index) at bytes.now ahead (disk_of tables.old).image → OnOk result (inside_now tables.new ≡
+        with_blocks (blocks_written file grown.length at bytes.now index
+        (blocks_up_to (at + length bytes.now) index) (inside_now tables.old).blocks) (inside_now tables.old)) }
     ensures frame { (t : Typed) → NamesNoFree tables.old.clusters (states_of tables.old) t →
         inside_at t (disk_of tables.new).image ≡ inside_at t (disk_of tables.old).image }
     ensures leaves { Leaves tables.old tables.new }
@@ -94,14 +105,16 @@ pub(crate) fn write_blocks<D: Disk>(
     ensures stops { stopped tables.new ≡ true → IsErrOf result Fault.Failed }
     ensures refused { OnErr result (IsErrOf result Fault.Failed ⊎ IsErrOf result Fault.Memory) }
     ensures failed { IsErrOf result Fault.Failed → Rose (disk_of tables.old).faults (disk_of tables.new).faults }
+    ensures halts { IsErrOf result Fault.Failed → (stopped tables.new ≡ true) ⊎
+        ReadsFirst file (4096 * index) at (length bytes.now) (tables_now tables.old) }
 {
     if BLOCK * index as u64 >= at + bytes.len() as u64 {
         return Ok(());
     }
     let key = (file, index);
     let was = tables.get_extent(key);
-    write_block(tables, key, was, grown, at, bytes)?;
-    match write_blocks(tables, file, grown, at, bytes, index + 1) {
+    let written = write_block(tables, key, was, grown, at, bytes, ahead)?;
+    match write_blocks(tables, file, grown, at, bytes, index + 1, written.ahead) {
         Ok(()) => Ok(()),
         Err(fault) => {
             take_back(tables, key, was);

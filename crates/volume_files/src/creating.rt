@@ -5,8 +5,9 @@ ghost use Rattle.plain_volume.specs.Replies.{done_reply};
 ghost use Rattle.plain_volume.specs.declared.call.Call.TheVariants.{Create};
 ghost use Rattle.volume_inside.specs.Layout.{half_bytes};
 ghost use Rattle.volume_inside.specs.Rules.{RulesHold, next_id_of};
-ghost use Rattle.volume_tables.specs.Tables.{clusters_in, tables_now, view_now, states_of, staged_of, checkpoint_of};
-ghost use Rattle.volume_tables.specs.Tables.{disk_of, stopped, Leaves};
+ghost use Rattle.volume_tables.specs.Tables.{clusters_in, tables_now, inside_now, view_now, states_of, staged_of};
+ghost use Rattle.volume_tables.specs.Tables.{checkpoint_of, disk_of, stopped, Leaves};
+ghost use Rattle.volume_files.specs.Insides.{inside_created};
 ghost use Rattle.volume_files.specs.Names.{with_new, IsNewName, IsRefused};
 ghost use Rattle.volume_files.specs.Needs.{create_needs};
 ghost use Rattle.volume_files.specs.Sound.{IsSound, Endures};
@@ -24,6 +25,7 @@ fn check_new<D: Disk>(tables: &Tables<D>, name: &[u8]) -> Result<(), Fault>
     requires { RulesHold (clusters_in tables.now) (tables_now tables.now) }
     ensures new { OnOk result (IsNewName (tables_now tables.now) name.now) }
     ensures refused { IfErr result (IsRefused (view_now tables.now) (Create name.now)) }
+    ensures no_fault { IsErrOf result Fault.Failed → ⊥ }
 {
     if !name_is_lawful(name) {
         return Err(Fault::BadName);
@@ -77,12 +79,15 @@ pub fn create<D: Disk>(tables: &mut Tables<D>, name: &[u8]) -> Result<(), Fault>
         (wanting tables.old (create_needs name.now)) (disk_of tables.old).faults (disk_of tables.new).faults
         (done_reply result) }
     ensures left { view_now tables.new ≡ after (view_now tables.old) (Create name.now) (done_reply result) }
+    ensures inside { OnOk result (inside_now tables.new ≡ inside_created name.now (inside_now tables.old)) }
+    ensures err_inside { OnErr result (inside_now tables.new ≡ inside_now tables.old) }
     ensures made { OnOk result (tables_now tables.new ≡ with_new name.now (tables_now tables.old)) }
     ensures same { OnErr result (tables_now tables.new ≡ tables_now tables.old) }
     ensures sound { IsSound tables.new }
     ensures endures { Endures tables.old tables.new }
     ensures spends { Spends 0 1 tables.old tables.new }
     ensures stops { stopped tables.new ≡ true → IsErrOf result Fault.Failed }
+    ensures halts { IsErrOf result Fault.Failed → stopped tables.new ≡ true }
 {
     check_new(tables, name)?;
     make_room(tables, true, 52 + name.len() as u64, 93 + name.len(), 0)?;

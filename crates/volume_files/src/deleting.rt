@@ -8,7 +8,8 @@ ghost use Rattle.plain_volume.specs.Step.{plain, after};
 ghost use Rattle.plain_volume.specs.Replies.{done_reply};
 ghost use Rattle.plain_volume.specs.declared.call.Call.TheVariants.{Delete};
 ghost use Rattle.volume_inside.specs.Changes.{keep_names};
-ghost use Rattle.volume_tables.specs.Tables.{tables_now, view_now, staged_of, disk_of, stopped};
+ghost use Rattle.volume_tables.specs.Tables.{tables_now, inside_now, view_now, staged_of, disk_of, stopped};
+ghost use Rattle.volume_files.specs.Insides.{inside_deleted};
 ghost use Rattle.volume_files.specs.Names.{is_other, without_name, AreShort};
 ghost use Rattle.volume_files.specs.Needs.{delete_needs};
 ghost use Rattle.volume_files.specs.Sound.{IsSound, Endures};
@@ -78,6 +79,8 @@ pub fn delete<D: Disk>(tables: &mut Tables<D>, name: &[u8]) -> Result<(), Fault>
         (wanting tables.old (delete_needs name.now)) (disk_of tables.old).faults (disk_of tables.new).faults
         (done_reply result) }
     ensures left { view_now tables.new ≡ after (view_now tables.old) (Delete name.now) (done_reply result) }
+    ensures inside { OnOk result (inside_now tables.new ≡ inside_deleted name.now (inside_now tables.old)) }
+    ensures err_inside { OnErr result (inside_now tables.new ≡ inside_now tables.old) }
     ensures gone { (id : ℕ) → find bytes_cmp name.now (tables_now tables.old).names ≡ Some id →
         OnOk result (tables_now tables.new ≡ without_name name.now id (tables_now tables.old)) }
     ensures same { OnErr result (tables_now tables.new ≡ tables_now tables.old) }
@@ -85,6 +88,7 @@ pub fn delete<D: Disk>(tables: &mut Tables<D>, name: &[u8]) -> Result<(), Fault>
     ensures endures { Endures tables.old tables.new }
     ensures spends { Spends 0 0 tables.old tables.new }
     ensures stops { stopped tables.new ≡ true → IsErrOf result Fault.Failed }
+    ensures halts { IsErrOf result Fault.Failed → stopped tables.new ≡ true }
 {
     let (id, _) = find_file(tables, name)?;
     make_room(tables, false, 0, 316 + name.len(), 0)?;

@@ -1,5 +1,5 @@
 // Files are found by their names.
-ghost use Rattle.std.specs.Prelude.{IfOk, IfErr};
+ghost use Rattle.std.specs.Prelude.{IfOk, IfErr, IsErrOf};
 ghost use Rattle.plain_volume.specs.Files.{RefusesFile};
 ghost use Rattle.volume_inside.specs.Rules.{RulesHold};
 ghost use Rattle.volume_tables.specs.Tables.{clusters_in, tables_now, view_now};
@@ -14,6 +14,7 @@ pub fn find_file<D: Disk>(tables: &Tables<D>, name: &[u8]) -> Result<(u64, FileR
     requires { RulesHold (clusters_in tables.now) (tables_now tables.now) }
     ensures found { IfOk result (λ file. IsFileOf tables.now name.now file.0 file.1) }
     ensures refused { IfErr result (RefusesFile (view_now tables.now) name.now) }
+    ensures no_fault { IsErrOf result Fault.Failed → ⊥ }
 {
     if !name_is_lawful(name) {
         return Err(Fault::BadName);

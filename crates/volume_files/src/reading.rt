@@ -84,6 +84,7 @@ pub fn read_plain<D: Disk>(
     requires within { at + length out.old ≤ length (file_cells (inside_now tables.old) file) }
     ensures bytes { (stored : Typed) → IsTables tables.old stored → OnOk result (out.new ≡
         bytes_of (take (length out.old) (drop at (file_cells (inside_now tables.old) file)))) }
+    ensures inside { inside_now tables.new ≡ inside_now tables.old }
     ensures reads { ReadsOnly tables.old tables.new }
     ensures failed { OnErr result (IsErrOf result Fault.Failed ×
         Rose (disk_of tables.old).faults (disk_of tables.new).faults) }

@@ -7,8 +7,9 @@ ghost use Rattle.plain_volume.specs.Replies.{done_reply};
 ghost use Rattle.plain_volume.specs.declared.call.Call.TheVariants.{Rename};
 ghost use Rattle.volume_inside.specs.Layout.{half_bytes};
 ghost use Rattle.volume_inside.specs.Rules.{RulesHold};
-ghost use Rattle.volume_tables.specs.Tables.{clusters_in, tables_now, view_now, staged_of, checkpoint_of, disk_of};
-ghost use Rattle.volume_tables.specs.Tables.{stopped};
+ghost use Rattle.volume_tables.specs.Tables.{clusters_in, tables_now, inside_now, view_now, staged_of, checkpoint_of};
+ghost use Rattle.volume_tables.specs.Tables.{disk_of, stopped};
+ghost use Rattle.volume_files.specs.Insides.{inside_renamed};
 ghost use Rattle.volume_files.specs.Names.{with_renamed, AreShort, IsRenaming, IsRefused};
 ghost use Rattle.volume_files.specs.Needs.{rename_needs};
 ghost use Rattle.volume_files.specs.Sound.{IsSound, Endures};
@@ -27,6 +28,7 @@ fn check_names<D: Disk>(tables: &Tables<D>, from: &[u8], to: &[u8]) -> Result<u6
     requires { RulesHold (clusters_in tables.now) (tables_now tables.now) }
     ensures found { IfOk result (IsRenaming (tables_now tables.now) from.now to.now) }
     ensures refused { IfErr result (IsRefused (view_now tables.now) (Rename from.now to.now)) }
+    ensures no_fault { IsErrOf result Fault.Failed → ⊥ }
 {
     if !name_is_lawful(from) {
         return Err(Fault::BadName);
@@ -71,6 +73,8 @@ pub fn rename<D: Disk>(tables: &mut Tables<D>, from: &[u8], to: &[u8]) -> Result
         (wanting tables.old (rename_needs from.now to.now)) (disk_of tables.old).faults (disk_of tables.new).faults
         (done_reply result) }
     ensures left { view_now tables.new ≡ after (view_now tables.old) (Rename from.now to.now) (done_reply result) }
+    ensures inside { OnOk result (inside_now tables.new ≡ inside_renamed from.now to.now (inside_now tables.old)) }
+    ensures err_inside { OnErr result (inside_now tables.new ≡ inside_now tables.old) }
     ensures renamed { (id : ℕ) → find bytes_cmp from.now (tables_now tables.old).names ≡ Some id →
         OnOk result (tables_now tables.new ≡ with_renamed from.now to.now id (tables_now tables.old)) }
     ensures same { OnErr result (tables_now tables.new ≡ tables_now tables.old) }
@@ -78,6 +82,7 @@ pub fn rename<D: Disk>(tables: &mut Tables<D>, from: &[u8], to: &[u8]) -> Result
     ensures endures { Endures tables.old tables.new }
     ensures spends { Spends 0 0 tables.old tables.new }
     ensures stops { stopped tables.new ≡ true → IsErrOf result Fault.Failed }
+    ensures halts { IsErrOf result Fault.Failed → stopped tables.new ≡ true }
 {
     let id = check_names(tables, from, to)?;
     make_room(

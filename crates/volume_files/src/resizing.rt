@@ -7,8 +7,9 @@ ghost use Rattle.plain_volume.specs.Replies.{done_reply};
 ghost use Rattle.plain_volume.specs.Step.{plain, after};
 ghost use Rattle.plain_volume.specs.declared.call.Call.TheVariants.{SetLength};
 ghost use Rattle.table_records.specs.declared.records.FileRecord.{FileRecord};
-ghost use Rattle.volume_tables.specs.Tables.{tables_now, view_now, disk_of, staged_of, stopped};
+ghost use Rattle.volume_tables.specs.Tables.{tables_now, inside_now, view_now, disk_of, staged_of, stopped};
 ghost use Rattle.volume_files.specs.Found.{IsFileOf};
+ghost use Rattle.volume_files.specs.Insides.{inside_resized};
 ghost use Rattle.volume_files.specs.Needs.{length_needs, set_at_end};
 ghost use Rattle.volume_files.specs.Lengths.{cut_extent, end_cut, cut_at, resized_in, length_wants};
 ghost use Rattle.volume_files.specs.Sound.{IsSound, Endures};
@@ -112,7 +113,10 @@ pub fn set_length<D: Disk>(tables: &mut Tables<D>, name: &[u8], length: u64) -> 
     ensures endures { Endures tables.old tables.new }
     ensures spends { Spends 0 0 tables.old tables.new }
     ensures stops { stopped tables.new ≡ true → IsErrOf result Fault.Failed }
+    ensures halts { IsErrOf result Fault.Failed → stopped tables.new ≡ true }
     ensures same { OnErr result (tables_now tables.new ≡ tables_now tables.old) }
+    ensures inside { OnOk result (inside_now tables.new ≡ inside_resized name.now length (inside_now tables.old)) }
+    ensures err_inside { OnErr result (inside_now tables.new ≡ inside_now tables.old) }
     ensures resized { (id : ℕ) (file : FileRecord) → IsFileOf tables.old name.now id file →
         OnOk result (tables_now tables.new ≡ resized_in id file length (tables_now tables.old)) }
 {

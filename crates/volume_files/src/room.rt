@@ -39,6 +39,7 @@ pub(crate) fn make_room<D: Disk>(
     ensures endures { Endures tables.old tables.new }
     ensures runs { OnOk result (stopped tables.new ≡ false) }
     ensures stops { stopped tables.new ≡ true → IsErrOf result Fault.Failed }
+    ensures halts { IsErrOf result Fault.Failed → stopped tables.new ≡ true }
 {
     if draws && tables.stored_next_id() == LAST_ID {
         return Err(Fault::Worn);

@@ -15,15 +15,17 @@ ghost use Rattle.volume_inside.specs.Typed.{Typed};
 ghost use Rattle.volume_inside.specs.View.{file_cells};
 ghost use Rattle.volume_tables.specs.Tables.{tables_now, inside_now, states_of, staged_of, checkpoint_of, disk_of};
 ghost use Rattle.volume_tables.specs.Tables.{clusters_in, stopped, IsTables, IsRoomFor, Leaves};
+ghost use Rattle.volume_files.specs.Insides.{id_written};
 ghost use Rattle.volume_files.specs.Needs.{missing, first_touched, touched, touched_at, write_needs};
 ghost use Rattle.volume_files.specs.Sound.{IsSound, IsKept, Endures};
 ghost use Rattle.volume_files.specs.Spending.{Spends};
 ghost use Rattle.volume_files.specs.Wants.{wanting, IsWanting, IsRepliedOrMemory};
-ghost use Rattle.volume_files.specs.Writing.{AreWritten, IsWritten, write_wants};
+ghost use Rattle.volume_files.specs.Writing.{AreWritten, IsWritten, ReadsFirst, write_wants};
 
 use crate::block::BLOCK;
 use crate::blocks::write_blocks;
 use crate::room::make_room;
+use cluster_space::Run;
 use plain_volume::Fault;
 use plain_volume::limits::{MOST_BYTES_OF_A_CALL, MOST_BYTES_OF_A_FILE};
 use vdisk::Disk;
@@ -70,6 +72,7 @@ fn make_room_for_write<D: Disk>(
     ensures endures { Endures tables.old tables.new }
     ensures runs { OnOk result (stopped tables.new ≡ false) }
     ensures stops { stopped tables.new ≡ true → IsErrOf result Fault.Failed }
+    ensures halts { IsErrOf result Fault.Failed → stopped tables.new ≡ true }
 {
     let first = (at / BLOCK) as u32;
     let touches = ((at + count as u64 - 1) / BLOCK) as u32 + 1 - first;
@@ -101,6 +104,8 @@ fn write_with_room<D: Disk>(
     ensures cells { (stored : Typed) → IsTables tables.old stored → OnOk result
         (file_cells (inside_now tables.new) file ≡
         overwritten at bytes.now (file_cells (inside_now tables.old) file)) }
+    ensures inside { (stored : Typed) → IsTables tables.old stored → OnOk result
+        (inside_now tables.new ≡ id_written file at bytes.now (inside_now tables.old)) }
     ensures others { OnOk result ((other : ℕ) → (other ≡ file → ⊥) →
         file_cells (inside_now tables.new) other ≡ file_cells (inside_now tables.old) other) }
     ensures sound { IsSound tables.new }
@@ -109,10 +114,13 @@ fn write_with_room<D: Disk>(
     ensures stops { stopped tables.new ≡ true → IsErrOf result Fault.Failed }
     ensures refused { OnErr result (IsErrOf result Fault.Failed ⊎ IsErrOf result Fault.Memory) }
     ensures failed { IsErrOf result Fault.Failed → Rose (disk_of tables.old).faults (disk_of tables.new).faults }
+    ensures halts { IsErrOf result Fault.Failed → (stopped tables.new ≡ true) ⊎
+        ReadsFirst file at at (length bytes.now) (tables_now tables.old) }
 {
     let mut grown = tables.get_file(file).unwrap();
     grown.length = grown.length.max(at + bytes.len() as u64);
-    write_blocks(tables, file, grown, at, bytes, (at / BLOCK) as u32)?;
+    let none = Run { first: 0, count: 0 };
+    write_blocks(tables, file, grown, at, bytes, (at / BLOCK) as u32, none)?;
     tables.set_file(file, grown).unwrap();
     Ok(())
 }
@@ -137,6 +145,8 @@ pub fn write_plain<D: Disk>(
     ensures cells { (w : Volume) → IsKept tables.old w → OnOk result
         (file_cells (inside_now tables.new) file ≡
         overwritten at bytes.now (file_cells (inside_now tables.old) file)) }
+    ensures inside { (w : Volume) → IsKept tables.old w → OnOk result
+        (inside_now tables.new ≡ id_written file at bytes.now (inside_now tables.old)) }
     ensures others { OnOk result ((other : ℕ) → (other ≡ file → ⊥) →
         file_cells (inside_now tables.new) other ≡ file_cells (inside_now tables.old) other) }
     ensures written { OnOk result (AreWritten file at bytes.now (tables_now tables.old) (tables_now tables.new)) }
@@ -147,6 +157,8 @@ pub fn write_plain<D: Disk>(
     ensures spends { Spends (touched_at at bytes.now) 0 tables.old tables.new }
     ensures stops { stopped tables.new ≡ true → IsErrOf result Fault.Failed }
     ensures failed { IsErrOf result Fault.Failed → Rose (disk_of tables.old).faults (disk_of tables.new).faults }
+    ensures halts { IsErrOf result Fault.Failed → (stopped tables.new ≡ true) ⊎
+        ReadsFirst file at at (length bytes.now) (tables_now tables.old) }
 {
     if bytes.len() as u64 > MOST_BYTES_OF_A_CALL {
         return Err(Fault::TooLarge(MOST_BYTES_OF_A_CALL));

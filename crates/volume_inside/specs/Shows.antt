@@ -30,7 +30,8 @@ pub record Shows (a : Area) (w : Volume) (image : List ℕ) : Type 0 where
   pub has : HasInside a inside image
   pub is : view inside ≡ w
 
--- each image that a crash now may leave shows w
+-- WHAT IS KEPT, in the sense of the definition: each image that a crash now may leave has an inside and shows w. The
+-- stronger invariant of the calls has a name of its own where these are.
 abbrev pub Kept : Area → DiskState → Volume → Type 0
 Kept a s w = (image : List ℕ) → s.may_leave image → Shows a w image
 

@@ -17,6 +17,7 @@ pub mod Framing
 pub mod Writing
 pub mod Committing
 pub mod Leaving
+pub mod Told
 pub mod Freed
 pub mod Blocks
 pub mod Setting
@@ -33,3 +34,4 @@ pub mod Roomed
 pub mod Counting
 pub mod Measured
 pub mod Counts
+pub mod Runs

@@ -22,10 +22,11 @@ use Rattle.volume_inside.specs.declared.mount_fault.MountFault.{MountFault}
 use Rattle.volume_inside.specs.declared.mount_fault.MountFault.TheVariants.{NotVolume, VersionUnknown, SizeDiffers}
 use Rattle.volume_inside.specs.declared.mount_fault.MountFault.TheVariants.{MetaDamaged, BadTable, Failed, Memory}
 use Rattle.volume_inside.proofs.Journals.{journal_apart, rules_data}
-use Rattle.volume_tables.specs.Log.{log_now}
+use Rattle.meta_log.specs.Ready.{GoesOnFrom}
+use Rattle.volume_tables.specs.Log.{log_now, log_place, log_epoch}
 use Rattle.volume_tables.specs.Mount.{read_meta, IsFrontFault, IsInnerFault, IsMountFault}
-use Rattle.volume_tables.specs.Mounted.{IsMountedFrom}
-use Rattle.volume_tables.specs.Tables.{tables_now, inside_now, view_now, area_of, disk_of, states_of, IsTables}
+use Rattle.volume_tables.specs.Mounted.{IsMountedFrom, AreTablesOf}
+use Rattle.volume_tables.specs.Tables.{tables_now, inside_now, view_now, area_of, disk_of, states_of, IsTables, IsToldBy}
 use Rattle.volume_tables.specs.declared.tables.Tables.{Tables}
 use Rattle.volume_tables.proofs.Assembled.{out_unless_used, free_differs}
 
@@ -92,6 +93,19 @@ module _ {D : Type 0} {d : Ghosts D} (t : Tables D d) (n : ℕ) (s₀ s₁ : Dis
         volume = from.volume;
         is = λ i. inside_at (sym from.now i) (sym last i);
       }
+
+  pub mounted_whole : t.clusters ≡ n → AreTablesOf t.clusters s₀.image (tables_now t)
+  mounted_whole is = record {
+    stored = log_now t.log;
+    spells = (λ i. read_meta (is i) (sym first.image i)) ∙ from.spells;
+    is = sym from.now;
+  }
+
+  pub mounted_goes_on : t.clusters ≡ n → IsToldBy t s₀.image
+  mounted_goes_on is =
+      subst (λ (k : ℕ). GoesOnFrom journal_at (half_bytes k) (log_place t.log) (log_epoch t.log) s₀.image) (sym is)
+      (subst (λ (x : List ℕ). GoesOnFrom journal_at (half_bytes n) (log_place t.log) (log_epoch t.log) x) first.image
+      from.goes_on)
 
   pub mounted_kept : t.clusters ≡ n → IsImageOf n s₀.image → Only s₀.image s₁.may_leave
       → Kept (area_of t) (disk_of t) (view_now t)

@@ -58,3 +58,7 @@ answer_failed P (Err e) failed = (ap answer_of failed.0, failed.1)
 pub handed_ok : (P : Type 0) (r : Result (Unit {0}) MetaFault) (result : Result (Unit {0}) Fault) → result ≡ answer_of r
     → OnOk r P → OnOk result P
 handed_ok P r result is p = subst (λ (a : Result (Unit {0}) Fault). OnOk a P) (sym is) (answer_ok P r p)
+
+pub handed_err : (P : Type 0) (r : Result (Unit {0}) MetaFault) (result : Result (Unit {0}) Fault)
+    → result ≡ answer_of r → OnErr r P → OnErr result P
+handed_err P r result is p = subst (λ (a : Result (Unit {0}) Fault). OnErr a P) (sym is) (answer_err P r p)

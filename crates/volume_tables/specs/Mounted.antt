@@ -1,14 +1,23 @@
 -- What tables are once they were mounted.
-use Rattle.std.specs.Prelude.{◌≡◌, ℕ, Ok}
+use Rattle.std.specs.Prelude.{◌≡◌, ℕ, List, Ok}
 use Rattle.vdisk.specs.Disk.{DiskState}
 use Rattle.vdisk.specs.declared.disk.Disk.{Ghosts}
+use Rattle.byte_map.specs.Words.{Map}
 use Rattle.meta_log.specs.Log.{IsLog}
+use Rattle.meta_log.specs.Ready.{GoesOnFrom}
+use Rattle.volume_inside.specs.Layout.{journal_at, half_bytes}
 use Rattle.volume_inside.specs.Rules.{IsVolume}
-use Rattle.volume_inside.specs.Typed.{typed_of}
-use Rattle.volume_tables.specs.Log.{log_now}
+use Rattle.volume_inside.specs.Typed.{Typed, typed_of}
+use Rattle.volume_tables.specs.Log.{log_now, log_place, log_epoch}
 use Rattle.volume_tables.specs.Mount.{read_meta}
 use Rattle.volume_tables.specs.Tables.{tables_now}
 use Rattle.volume_tables.specs.declared.tables.Tables.{Tables}
+
+-- these are all the tables of an image of n clusters: those that its journal spells
+pub record AreTablesOf (n : ℕ) (image : List ℕ) (t : Typed) : Type 0 where
+  pub stored : Map
+  pub spells : read_meta n image ≡ Ok stored
+  pub is : typed_of stored ≡ t
 
 module _ {D : Type 0} {d : Ghosts D} where
   -- the journal of the disk as it read spells a volume's tables, and each crash image now spells them too
@@ -17,3 +26,4 @@ module _ {D : Type 0} {d : Ghosts D} where
     pub spells : read_meta n old.image ≡ Ok (log_now t.log)
     pub volume : IsVolume n (log_now t.log)
     pub now : tables_now t ≡ typed_of (log_now t.log)
+    pub goes_on : GoesOnFrom journal_at (half_bytes n) (log_place t.log) (log_epoch t.log) old.image

@@ -1,5 +1,5 @@
 -- What the tables stand for.
-use Rattle.std.specs.Prelude.{◌≡◌, ◌⊎◌, ◌↔◌, ◌≤◌, ◌<◌, ◌+◌, ◌*◌, ◌&&◌, ◌||◌, nat_lt, nat_eq, ℕ, Bool, List, Option, None, Some, IsSome, Result, IsOk, IsErrOf, OnOk, OnErr}
+use Rattle.std.specs.Prelude.{◌≡◌, ◌⊎◌, ◌↔◌, ◌≤◌, ◌<◌, ◌+◌, ◌*◌, ◌&&◌, ◌||◌, nat_eq, ℕ, Bool, List, Option, None, Some, IsSome, Result, IsOk, IsErrOf, OnOk, OnErr}
 use Rattle.std.specs.declared.cmp.Ordering.{Ordering}
 use Rattle.vdisk.specs.Disk.{DiskState}
 use Rattle.vdisk.specs.Steps.{Keeps}
@@ -18,8 +18,9 @@ use Rattle.volume_inside.specs.Ranges.{IsApart}
 use Rattle.volume_inside.specs.Named.{named, clusters_of}
 use Rattle.volume_inside.specs.Lists.{IsOut}
 use Rattle.volume_inside.specs.Shows.{Area, Shows, Kept}
-use Rattle.meta_log.specs.Log.{checkpoint_length}
-use Rattle.meta_log.specs.Meta.{meta_of, last_epoch}
+use Rattle.meta_log.specs.Log.{checkpoint_length, passes_half, epochs_for}
+use Rattle.meta_log.specs.Meta.{meta_of, last_epoch, place_in, epoch_in}
+use Rattle.meta_log.specs.Ready.{GoesOnFrom}
 use Rattle.meta_log.specs.declared.log.MetaLog.{MetaLog}
 use Rattle.volume_tables.specs.Log.{log_state, log_now, log_staged, log_stopped, log_place, log_epoch, IsLogOf, IsSameLog}
 use Rattle.volume_tables.specs.Ends.{results_now, unstaged_in}
@@ -87,7 +88,25 @@ module _ {D : Type 0} {d : Ghosts D} where
   -- a commit now would be refused as worn: one was, or it needs a new checkpoint and the last epoch is used up
   abbrev pub would_wear : Tables D d → Bool
   would_wear t = t.worn
-      || ((nat_lt 0 (due_of t) && nat_lt t.log.half (t.log.place + (37 + due_of t))) && nat_eq t.log.epoch last_epoch)
+      || (passes_half t.log.half t.log.place (due_of t) && nat_eq t.log.epoch last_epoch)
+
+  -- how many epochs a commit now takes: one where what is due does not fit behind the last group
+  abbrev pub epochs_due : Tables D d → ℕ
+  epochs_due t = epochs_for t.log.half t.log.place (due_of t)
+
+  -- an image tells where the journal of these tables goes on: its live half's groups end where the next one goes, and
+  -- it has this epoch
+  abbrev pub IsToldBy : Tables D d → List ℕ → Type 0
+  IsToldBy t image = GoesOnFrom journal_at (half_bytes t.clusters) (log_place t.log) (log_epoch t.log) image
+
+  -- The epoch that the disk's image tells has risen by one exactly where what was due did not fit behind the last group
+  -- of the live half, as the image before told it.
+  abbrev pub HasSpentEpochs : Tables D d → Tables D d → Type 0
+  HasSpentEpochs old new =
+      let half = half_bytes old.clusters in
+      let before = (disk_of old).image in
+      epoch_in journal_at half (disk_of new).image
+      ≡ epoch_in journal_at half before + epochs_for half (place_in journal_at half before) (due_of old)
 
   -- Each crash image spells the stored tables, which name no byte of the journal and no free cluster.
   pub record IsTables (t : Tables D d) (stored : Typed) : Type 0 where

@@ -15,11 +15,11 @@ ghost use Rattle.volume_inside.specs.Typed.{Typed};
 ghost use Rattle.volume_inside.specs.Shows.{Shows, Kept};
 ghost use Rattle.volume_tables.specs.Log.{log_place, log_epoch, IsSameLog};
 ghost use Rattle.volume_tables.specs.Clusters.{HasState, used_at, deferred_at, deferred_unless};
-ghost use Rattle.volume_tables.specs.Frames.{NamesNoFree, IsOneUsed};
+ghost use Rattle.volume_tables.specs.Frames.{AreFree, NamesNoFree, IsOneUsed};
 
 use crate::fault;
 use crate::tables::Tables;
-use cluster_space::State;
+use cluster_space::{Run, State};
 use plain_volume::Fault;
 use vdisk::Disk;
 
@@ -46,6 +46,50 @@ impl<D: Disk> Tables<D> {
     {
         let index = self.space.take().unwrap();
         self.first_cluster() + index
+    }
+
+    /// Makes a free cluster used.
+    fn use_free(&mut self, cluster: u32)
+        requires { HasState self.old.clusters (states_of self.old) State.Free cluster }
+        ensures states { states_of self.new ≡ used_at self.old.clusters cluster (states_of self.old) }
+        ensures log { self.new.log ≡ self.old.log }
+        ensures tables { tables_now self.new ≡ tables_now self.old }
+        ensures clusters { self.new.clusters ≡ self.old.clusters }
+        ensures worn { self.new.worn ≡ self.old.worn }
+    {
+        let index = cluster - self.first_cluster();
+        self.space.mark_used(index);
+    }
+
+    /// Makes a free cluster used. No bytes change.
+    pub fn take_free(&mut self, cluster: u32)
+        requires { HasState self.old.clusters (states_of self.old) State.Free cluster }
+        ensures used { states_of self.new ≡ used_at self.old.clusters cluster (states_of self.old) }
+        ensures unnamed { IsOut cluster (clusters_of (tables_now self.old)) }
+        ensures now { tables_now self.new ≡ tables_now self.old }
+        ensures image { (disk_of self.new).image ≡ (disk_of self.old).image }
+        ensures faults { (disk_of self.new).faults ≡ (disk_of self.old).faults }
+        ensures leaves { Leaves self.old self.new }
+        ensures numbers { (staged_of self.new ≡ staged_of self.old) × (checkpoint_of self.new ≡
+            checkpoint_of self.old) }
+        ensures running { stopped self.new ≡ stopped self.old }
+    {
+        self.use_free(cluster);
+    }
+
+    /// Free clusters beside one another, at most so many. They stay free.
+    fn free_run(&self, most: u32) -> Run
+        requires some { 0 < free_in (states_of self.now) }
+        requires wanted { 0 < most }
+        ensures some { 0 < result.count }
+        ensures most { result.count ≤ most }
+        ensures free { AreFree self.now.clusters (states_of self.now) result }
+    {
+        let run = self.space.free_run(most);
+        Run {
+            first: self.first_cluster() + run.first,
+            count: run.count,
+        }
     }
 
     /// Makes a cluster that nobody names deferred.
@@ -151,6 +195,60 @@ impl<D: Disk> Tables<D> {
         let cluster = self.take_cluster();
         self.write_taken(cluster, bytes)?;
         Ok(cluster)
+    }
+
+    /// Writes bytes over neighbouring free clusters, which they fill.
+    fn write_run(&mut self, run: Run, bytes: &[u8]) -> Result<(), Fault>
+        requires running { stopped self.old ≡ false }
+        requires some { 0 < run.count }
+        requires whole { length bytes.now ≡ 4096 * run.count }
+        requires free { AreFree self.old.clusters (states_of self.old) run }
+        ensures now { tables_now self.new ≡ tables_now self.old }
+        ensures states { states_of self.new ≡ states_of self.old }
+        ensures written { (stored : Typed) → IsTables self.old stored → OnOk result
+            (part (4096 * run.first) (4096 * run.count) (disk_of self.new).image ≡ bytes.now) }
+        ensures image { ChangedWithin (4096 * run.first) (4096 * run.count) (disk_of self.old).image
+            (disk_of self.new).image }
+        ensures clusters { self.new.clusters ≡ self.old.clusters }
+        ensures leaves { Leaves self.old self.new }
+        ensures numbers { (staged_of self.new ≡ staged_of self.old) × (checkpoint_of self.new ≡
+            checkpoint_of self.old) }
+        ensures runs { OnOk result (stopped self.new ≡ false) }
+        ensures stops { OnErr result (stopped self.new ≡ true) }
+        ensures failed { OnErr result (IsErrOf result Fault.Failed ×
+            Rose (disk_of self.old).faults (disk_of self.new).faults) }
+    {
+        fault::of_log(self.log.write_data(4096 * run.first as u64, bytes))
+    }
+
+    /// Writes the whole clusters at the front of some bytes into free ones, at once: as many as are found beside one
+    /// another. They stay free, and neither the stored tables nor those now name them. A refusal stops the tables.
+    pub fn write_free_run(&mut self, bytes: &[u8]) -> Result<Run, Fault>
+        requires running { stopped self.old ≡ false }
+        requires some { 0 < free_in (states_of self.old) }
+        requires whole { 4096 ≤ length bytes.now }
+        requires short { length bytes.now ≤ 1048576 }
+        ensures some { IfOk result (λ run. 0 < run.count) }
+        ensures fits { IfOk result (λ run. 4096 * run.count ≤ length bytes.now) }
+        ensures free { IfOk result (λ run. AreFree self.old.clusters (states_of self.old) run) }
+        ensures states { states_of self.new ≡ states_of self.old }
+        ensures now { tables_now self.new ≡ tables_now self.old }
+        ensures written { (stored : Typed) → IsTables self.old stored → IfOk result (λ run. (k : ℕ) → k < run.count →
+            cluster_bytes (run.first + k) (disk_of self.new).image ≡ part (4096 * k) 4096 bytes.now) }
+        ensures same { inside_now self.new ≡ inside_now self.old }
+        ensures frame { (t : Typed) → NamesNoFree self.old.clusters (states_of self.old) t →
+            inside_at t (disk_of self.new).image ≡ inside_at t (disk_of self.old).image }
+        ensures leaves { Leaves self.old self.new }
+        ensures numbers { (staged_of self.new ≡ staged_of self.old) × (checkpoint_of self.new ≡
+            checkpoint_of self.old) }
+        ensures runs { OnOk result (stopped self.new ≡ false) }
+        ensures stops { OnErr result (stopped self.new ≡ true) }
+        ensures failed { OnErr result (IsErrOf result Fault.Failed ×
+            Rose (disk_of self.old).faults (disk_of self.new).faults) }
+    {
+        let run = self.free_run((bytes.len() / 4096) as u32);
+        self.write_run(run, &bytes[..4096 * run.count as usize])?;
+        Ok(run)
     }
 
     /// Reads bytes of a data cluster from a place in it on. After a refusal `out` may hold anything.

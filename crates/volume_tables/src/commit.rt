@@ -17,7 +17,7 @@ use plain_volume::Fault;
 use vdisk::Disk;
 
 impl<D: Disk> Tables<D> {
-    ghost use Rattle.volume_tables.specs.Tables.{tables_now, inside_now, view_now, states_of, staged_of, checkpoint_of, disk_of, area_of, due_of, would_wear, stopped, IsTables, IsStoredAs};
+    ghost use Rattle.volume_tables.specs.Tables.{tables_now, inside_now, view_now, states_of, staged_of, checkpoint_of, disk_of, area_of, due_of, would_wear, epochs_due, stopped, HasSpentEpochs, IsTables, IsStoredAs};
 
     /// Commits what is staged, and leaves the states of the clusters.
     fn commit_log(&mut self) -> Result<(), Fault>
@@ -48,6 +48,9 @@ impl<D: Disk> Tables<D> {
         ensures idle_ok { due_of self.old ≡ 0 → self.old.worn ≡ false → IsOk result }
         ensures nothing_due { OnOk result (due_of self.new ≡ 0) }
         ensures epoch { stopped self.new ≡ false → log_epoch self.new.log ≤ log_epoch self.old.log + 1 }
+        ensures spends { OnOk result (log_epoch self.new.log ≡ log_epoch self.old.log + epochs_due self.old) }
+        ensures same_epoch { OnErr result (log_epoch self.new.log ≡ log_epoch self.old.log) }
+        ensures spent { (stored : Typed) → IsTables self.old stored → OnOk result (HasSpentEpochs self.old self.new) }
         ensures moment { (disk_of self.old).moment ≤ (disk_of self.new).moment }
         ensures failed { IsErrOf result Fault.Failed →
             Rose (disk_of self.old).faults (disk_of self.new).faults × (stopped self.new ≡ true) }
@@ -81,7 +84,8 @@ impl<D: Disk> Tables<D> {
     /// Makes the tables durable, which meet the rules, with the results of jobs. A crash at any moment shows what was
     /// kept, or the tables now; after Ok the tables now are kept, and clusters that were deferred are free. After
     /// `Worn` what is stored is as it was, the tables now are too, and each later commit is refused so, as it is after
-    /// no other answer; after `Failed` the tables are stopped. Where nothing is due the disk is not called.
+    /// no other answer; after `Failed` the tables are stopped. Where nothing is due the disk is not called. The epoch
+    /// rises by one exactly where what is due does not fit behind the last group, as the disk tells where that ends.
     pub fn commit(&mut self) -> Result<(), Fault>
         requires running { stopped self.old ≡ false }
         requires rules { RulesHold self.old.clusters (tables_now self.old) }
@@ -111,6 +115,9 @@ impl<D: Disk> Tables<D> {
         ensures idle_ok { due_of self.old ≡ 0 → self.old.worn ≡ false → IsOk result }
         ensures nothing_due { OnOk result (due_of self.new ≡ 0) }
         ensures epoch { stopped self.new ≡ false → log_epoch self.new.log ≤ log_epoch self.old.log + 1 }
+        ensures spends { OnOk result (log_epoch self.new.log ≡ log_epoch self.old.log + epochs_due self.old) }
+        ensures same_epoch { OnErr result (log_epoch self.new.log ≡ log_epoch self.old.log) }
+        ensures spent { (stored : Typed) → IsTables self.old stored → OnOk result (HasSpentEpochs self.old self.new) }
         ensures moment { (disk_of self.old).moment ≤ (disk_of self.new).moment }
         ensures failed { IsErrOf result Fault.Failed →
             Rose (disk_of self.old).faults (disk_of self.new).faults × (stopped self.new ≡ true) }

@@ -17,12 +17,12 @@ ghost use Rattle.volume_inside.specs.Named.{clusters_of};
 ghost use Rattle.volume_inside.specs.Rules.{RulesHold};
 ghost use Rattle.volume_inside.specs.Superblock.{IsSuperblock, HasSuperblock};
 ghost use Rattle.vdisk.specs.Steps.{Keeps};
-ghost use Rattle.volume_tables.specs.Log.{log_epoch};
+ghost use Rattle.volume_tables.specs.Log.{log_epoch, log_place};
 ghost use Rattle.volume_tables.specs.Formats.{IsCommitted, IsFormatFault, with_results};
 ghost use Rattle.volume_tables.specs.Formats.{IsBegun, IsMakeImage, SpellsNoFile};
 ghost use Rattle.volume_tables.specs.Staging.{IsQuiet};
 ghost use Rattle.volume_inside.specs.Shows.{Kept};
-ghost use Rattle.volume_tables.specs.Tables.{tables_now, area_of, disk_of, states_of};
+ghost use Rattle.volume_tables.specs.Tables.{tables_now, area_of, disk_of, states_of, due_of, IsToldBy};
 ghost use Rattle.volume_tables.specs.Tables.{staged_of as staged_in, stopped, IsTables};
 
 use crate::mounting::{assemble, of_log};
@@ -128,6 +128,8 @@ fn commit_first<D: Disk>(
     requires empty { now_of log ≡ [] }
     requires settings { settings.now ≡ settings_bytes fresh_settings }
     requires running { log.stopped ≡ false }
+    requires begun { log_place log ≡ 45 }
+    requires wide { 65618 ≤ log.half }
     ensures now { IfOk result (λ new. now_of new ≡ fresh_map) }
     ensures log { IsLog log [] → IfOk result (λ new. IsLog new fresh_map) }
     ensures settled { IsLog log [] → IfOk result (λ new. (c : List ℕ) → (state_of new).may_leave c →
@@ -142,6 +144,8 @@ fn commit_first<D: Disk>(
     ensures half { IfOk result (λ new. new.half ≡ log.half) }
     ensures staged { IfOk result (λ new. staged_of new ≡ 0) }
     ensures epoch { IfOk result (λ new. log_epoch new ≤ log_epoch log + 1) }
+    // A group fits behind an empty checkpoint, whatever it holds.
+    ensures first { IfOk result (λ new. log_epoch new ≡ log_epoch log) }
     ensures runs { IfOk result (λ new. new.stopped ≡ false) }
     ensures refused { IfErr result (λ e. ((e.1 ≡ MountFault.Failed) × Rose (state_of log).faults (D.state e.0).faults)
         ⊎ (e.1 ≡ MountFault.Memory)) }
@@ -203,6 +207,7 @@ fn make_log<D: Disk>(
     ensures at { IfOk result (λ log. log.at ≡ journal_at) }
     ensures half { IfOk result (λ log. log.half ≡ half_of clusters) }
     ensures epoch { IfOk result (λ log. log_epoch log ≡ 1) }
+    ensures next { IfOk result (λ log. log_place log ≡ 45) }
     ensures runs { IfOk result (λ log. log.stopped ≡ false) }
     ensures refused { IfErr result (λ e. ((e.1 ≡ MountFault.Failed) × Rose (D.state disk).faults (D.state e.0).faults)
         ⊎ (e.1 ≡ MountFault.Memory)) }
@@ -263,7 +268,10 @@ fn make<D: Disk>(alloc: Global, disk: D, clusters: u32) -> Result<Tables<D>, (D,
     ensures rules { IfOk result (λ tables. RulesHold clusters (tables_now tables)) }
     ensures clusters { IfOk result (λ tables. tables.clusters ≡ clusters) }
     ensures staged { IfOk result (λ tables. staged_in tables ≡ 0) }
+    ensures due { IfOk result (λ tables. due_of tables ≡ 0) }
     ensures epoch { IfOk result (λ tables. log_epoch tables.log ≤ 2) }
+    ensures first { IfOk result (λ tables. log_epoch tables.log ≡ 1) }
+    ensures goes_on { IsTrue (D.state disk).tells → IfOk result (λ tables. IsToldBy tables (disk_of tables).image) }
     ensures runs { IfOk result (λ tables. stopped tables ≡ false) }
     ensures fresh { IfOk result (λ tables. tables.worn ≡ false) }
     ensures moments { IsTrue (D.state disk).tells →
@@ -306,7 +314,10 @@ impl<D: Disk> Tables<D> {
         ensures rules { IfOk result (λ tables. RulesHold tables.clusters (tables_now tables)) }
         ensures clusters { IfOk result (λ tables. tables.clusters ≡ clusters) }
         ensures staged { IfOk result (λ tables. staged_in tables ≡ 0) }
+        ensures due { IfOk result (λ tables. due_of tables ≡ 0) }
         ensures epoch { IfOk result (λ tables. log_epoch tables.log ≤ 2) }
+        ensures first { IfOk result (λ tables. log_epoch tables.log ≡ 1) }
+        ensures goes_on { IsTrue (D.state disk).tells → IfOk result (λ tables. IsToldBy tables (disk_of tables).image) }
         ensures runs { IfOk result (λ tables. stopped tables ≡ false) }
         ensures fresh { IfOk result (λ tables. tables.worn ≡ false) }
         ensures moments { IsTrue (D.state disk).tells →

@@ -1,6 +1,6 @@
 //! Laws of the tables, each the contract of an empty function.
 
-ghost use Rattle.std.specs.Prelude.{◌≡◌, ◌≤◌, ℕ, T, length};
+ghost use Rattle.std.specs.Prelude.{◌≡◌, ◌≤◌, ℕ, List, IsTrue, T, length};
 ghost use Rattle.std.specs.Ordering.{nat_cmp};
 ghost use Rattle.std.specs.FinMap.Entries.{is_sorted};
 ghost use Rattle.byte_map.specs.Words.{bytes_cmp};
@@ -12,7 +12,10 @@ ghost use Rattle.volume_inside.specs.Changes.{with_result, with_settings};
 ghost use Rattle.volume_inside.specs.Rules.{RulesHold, AreSettings};
 ghost use Rattle.volume_inside.specs.Typed.{Typed};
 ghost use Rattle.volume_tables.specs.Sizes.{tables_bytes};
-ghost use Rattle.volume_tables.specs.Tables.{tables_now, checkpoint_of};
+ghost use Rattle.meta_log.specs.Meta.{last_epoch};
+ghost use Rattle.volume_tables.specs.Log.{log_epoch};
+ghost use Rattle.volume_tables.specs.Mounted.{AreTablesOf};
+ghost use Rattle.volume_tables.specs.Tables.{tables_now, checkpoint_of, disk_of, would_wear, IsTables, IsToldBy};
 
 use crate::tables::Tables;
 use vdisk::Disk;
@@ -33,6 +36,34 @@ pub fn tables_tell_their_checkpoint<D: Disk>(tables: &Tables<D>)
     ensures volume { length (tables_now tables.now).volume ≡ 1 }
     ensures settings { length (tables_now tables.now).settings ≡ 1 }
     ensures results { length (tables_now tables.now).results ≡ 4 }
+{
+    let _clusters = tables.clusters;
+}
+
+/// Each image that a crash may leave now tells where the journal goes on, and so does the disk as it reads: the next
+/// group goes where the groups of the live half end, and the epoch is that half's.
+pub fn the_journal_goes_on_where_its_groups_end<D: Disk>(tables: &Tables<D>)
+    ensures crash { (stored : Typed) (c : List ℕ) → IsTables tables.now stored → (disk_of tables.now).may_leave c →
+        IsToldBy tables.now c }
+    ensures read { (stored : Typed) → IsTables tables.now stored → IsToldBy tables.now (disk_of tables.now).image }
+{
+    let _clusters = tables.clusters;
+}
+
+/// Each image that a crash may leave now has all the stored tables, and so has the disk as it reads: ids, settings and
+/// results too.
+pub fn crash_images_hold_the_stored_tables<D: Disk>(tables: &Tables<D>)
+    ensures crash { (stored : Typed) (c : List ℕ) → IsTables tables.now stored → (disk_of tables.now).may_leave c →
+        AreTablesOf tables.now.clusters c stored }
+    ensures read { (stored : Typed) → IsTables tables.now stored →
+        AreTablesOf tables.now.clusters (disk_of tables.now).image stored }
+{
+    let _clusters = tables.clusters;
+}
+
+/// A commit would be refused as worn at the last epoch alone.
+pub fn tables_wear_at_the_last_epoch<D: Disk>(tables: &Tables<D>)
+    ensures { IsTrue (would_wear tables.now) → log_epoch tables.now.log ≡ last_epoch }
 {
     let _clusters = tables.clusters;
 }

@@ -5,6 +5,7 @@ ghost use Rattle.std.specs.FinMap.Entries.{is_sorted};
 ghost use Rattle.byte_map.specs.Words.{bytes_cmp};
 ghost use Rattle.meta_log.specs.Log.{IsLog, now_of, staged_of, state_of};
 ghost use Rattle.meta_log.specs.Opened.{IsOnlyRead};
+ghost use Rattle.meta_log.specs.Ready.{GoesOnFrom};
 ghost use Rattle.table_rules.specs.Found.{AreRecordsOf};
 ghost use Rattle.table_rules.specs.Marks.{IsFilled};
 ghost use Rattle.volume_inside.specs.InsideOf.{InsideOf};
@@ -15,9 +16,9 @@ ghost use Rattle.volume_inside.specs.Shows.{Kept};
 ghost use Rattle.volume_inside.specs.Typed.{typed_of};
 ghost use Rattle.volume_tables.specs.Mount.{read_meta, ends_from, IsLogFault};
 ghost use Rattle.volume_tables.specs.Mount.{IsInnerFault, IsMountFault, mount_fault_of};
-ghost use Rattle.volume_tables.specs.Mounted.{IsMountedFrom};
+ghost use Rattle.volume_tables.specs.Mounted.{IsMountedFrom, AreTablesOf};
 ghost use Rattle.volume_tables.specs.Log.{log_now};
-ghost use Rattle.volume_tables.specs.Tables.{tables_now, inside_now, view_now, area_of};
+ghost use Rattle.volume_tables.specs.Tables.{tables_now, inside_now, view_now, area_of, due_of, IsToldBy};
 ghost use Rattle.volume_tables.specs.Tables.{disk_of, states_of, staged_of as staged_in, stopped, IsTables};
 
 use crate::ends::{JobEnd, JobEnds};
@@ -51,6 +52,8 @@ fn open_log<D: Disk>(alloc: Global, disk: D, clusters: u32) -> Result<MetaLog<D>
     ensures opened { IsTrue (D.state disk).tells → IfOk result (λ log. IsLog log (now_of log)) }
     ensures spells { IsTrue (D.state disk).tells →
         IfOk result (λ log. read_meta clusters (D.state disk).image ≡ Ok (now_of log)) }
+    ensures goes_on { IsTrue (D.state disk).tells → IfOk result
+        (λ log. GoesOnFrom journal_at (half_of clusters) log.place log.epoch (D.state disk).image) }
     ensures refused { IfErr result (λ e. IsLogFault clusters (D.state disk) (D.state e.0) e.1) }
     ensures read { IfOk result (λ log. IsOnlyRead (D.state disk) (state_of log)) }
     ensures read_err { IfErr result (λ e. IsOnlyRead (D.state disk) (D.state e.0)) }
@@ -108,6 +111,7 @@ pub(crate) fn assemble<D: Disk>(log: MetaLog<D>, clusters: u32, found: Checked) 
     ensures space { result.space ≡ found.space }
     ensures tables { tables_now result ≡ typed_of (log_now log) }
     ensures rules { RulesHold clusters (tables_now result) }
+    ensures due { due_of result ≡ 0 }
     ensures worn { result.worn ≡ false }
 {
     let Checked { records, space } = found;
@@ -143,6 +147,7 @@ fn open_tables<D: Disk>(alloc: Global, disk: D, clusters: u32) -> Result<Tables<
     ensures same { IfOk result (λ tables. D.is_same disk tables.log.disk) }
     ensures same_err { IfErr result (λ e. D.is_same disk e.0) }
     ensures staged { IfOk result (λ tables. staged_in tables ≡ 0) }
+    ensures due { IfOk result (λ tables. due_of tables ≡ 0) }
     ensures runs { IfOk result (λ tables. stopped tables ≡ false) }
     ensures fresh { IfOk result (λ tables. tables.worn ≡ false) }
     ensures space { IfOk result (λ tables. IsFilled clusters (clusters_of (tables_now tables)) (states_of tables)) }
@@ -165,6 +170,11 @@ impl<D: Disk> Tables<D> {
     pub fn mount(alloc: Global, mut disk: D) -> Result<Tables<D>, (D, MountFault)>
         ensures inside { IsTrue (D.state disk).tells →
             IfOk result (λ tables. InsideOf read_meta (D.state disk).image (Ok (inside_now tables))) }
+        // The tables now are all those of the image, and the journal goes on where its groups end.
+        ensures whole { IsTrue (D.state disk).tells →
+            IfOk result (λ tables. AreTablesOf tables.clusters (D.state disk).image (tables_now tables)) }
+        ensures goes_on { IsTrue (D.state disk).tells →
+            IfOk result (λ tables. IsToldBy tables (D.state disk).image) }
         ensures tables { IsTrue (D.state disk).tells → IfOk result (λ tables. IsTables tables (tables_now tables)) }
         ensures kept { IsTrue (D.state disk).tells →
             IfOk result (λ tables. Kept (area_of tables) (disk_of tables) (view_now tables)) }
@@ -177,6 +187,7 @@ impl<D: Disk> Tables<D> {
             (λ tables. IsFilled tables.clusters (clusters_of (tables_now tables)) (states_of tables)) }
         ensures rules { IfOk result (λ tables. RulesHold tables.clusters (tables_now tables)) }
         ensures staged { IfOk result (λ tables. staged_in tables ≡ 0) }
+        ensures due { IfOk result (λ tables. due_of tables ≡ 0) }
         ensures runs { IfOk result (λ tables. stopped tables ≡ false) }
         ensures fresh { IfOk result (λ tables. tables.worn ≡ false) }
     {

@@ -18,7 +18,7 @@ use vdisk::Disk;
 pub const MOST_RECORDS: usize = 65_472;
 
 impl<D: Disk> Tables<D> {
-    ghost use Rattle.volume_tables.specs.Tables.{tables_now, inside_now, view_now, states_of, staged_of, checkpoint_of, disk_of, area_of, would_wear, stopped, IsTables, IsRoomFor, GoesOn};
+    ghost use Rattle.volume_tables.specs.Tables.{tables_now, inside_now, view_now, states_of, staged_of, checkpoint_of, disk_of, area_of, would_wear, epochs_due, stopped, HasSpentEpochs, IsTables, IsRoomFor, GoesOn};
 
     /// Whether records of so many bytes and so many clusters find room without a commit.
     fn has_room(&self, records: usize, clusters: u32) -> bool
@@ -63,6 +63,11 @@ impl<D: Disk> Tables<D> {
         ensures still_stored { (stored : Typed) → IsTables self.old stored →
             OnErr result (IsErrOf result Fault.Failed ⊎ IsTables self.new stored) }
         ensures epoch { stopped self.new ≡ false → log_epoch self.new.log ≤ log_epoch self.old.log + 1 }
+        ensures spends { (IsRoomFor self.old records clusters → ⊥) →
+            OnOk result (log_epoch self.new.log ≡ log_epoch self.old.log + epochs_due self.old) }
+        ensures same_epoch { OnErr result (log_epoch self.new.log ≡ log_epoch self.old.log) }
+        ensures spent { (stored : Typed) → IsTables self.old stored → (IsRoomFor self.old records clusters → ⊥) →
+            OnOk result (HasSpentEpochs self.old self.new) }
         ensures moment { (disk_of self.old).moment ≤ (disk_of self.new).moment }
         ensures failed { IsErrOf result Fault.Failed →
             Rose (disk_of self.old).faults (disk_of self.new).faults × (stopped self.new ≡ true) }

@@ -1,9 +1,10 @@
 //! The tables of a volume over its journal.
 
-ghost use Rattle.std.specs.Prelude.{◌≡◌, ◌≤◌, ◌*◌, ◌-◌, ◌^◌, false, length};
+ghost use Rattle.std.specs.Prelude.{◌≡◌, ◌≤◌, ◌*◌, ◌-◌, ◌^◌, false, true, length};
 ghost use Rattle.volume_inside.specs.Layout.{half_bytes, journal_at, data_clusters};
 ghost use Rattle.volume_inside.specs.Typed.{typed_of};
-ghost use Rattle.volume_tables.specs.Log.{log_state, log_now, log_staged, log_stopped};
+ghost use Rattle.meta_log.specs.Meta.{last_epoch};
+ghost use Rattle.volume_tables.specs.Log.{log_state, log_now, log_staged, log_stopped, log_epoch};
 ghost use Rattle.volume_tables.specs.Contents.{HasContents};
 ghost use Rattle.volume_tables.specs.Clusters.{AreHeld, held_prop};
 
@@ -38,6 +39,7 @@ pub struct Tables<D: Disk> {
     ghost named: { names ≡ length (typed_of (log_now log)).names },
     ghost contents: { HasContents (log_now log) next_id settings ends },
     ghost held: { AreHeld clusters space (typed_of (log_now log)) } by { held_prop _ _ (typed_of (log_now log)) },
+    ghost tired: { worn ≡ true → log_epoch log ≡ last_epoch },
     // Room is left for the records of four results.
     ghost few: { log_stopped log ≡ false → worn ≡ false → log_staged log ≤ 65472 },
 }

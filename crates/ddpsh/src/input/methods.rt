@@ -2,7 +2,7 @@
 ghost use Rattle.std.specs.Prelude.{◌≡◌, ◌+◌, ◌-◌, ◌≤◌, ◌<◌, ◌^◌, ℕ, List, [], length, take, drop, vec_len, IfOk, OnOk, IsErrOf, IsTrue, false};
 ghost use Rattle.vdisk.specs.Causes.{Rose};
 ghost use Rattle.ddpsh.specs.declared.limits.TheConstants.{MOST_SCRIPT};
-ghost use Rattle.ddpsh.specs.Input.{ahead, taken, IsLeft, HasRead};
+ghost use Rattle.ddpsh.specs.Input.{ahead, taken, IsLeft, HasGiven, GaveTooMany, HasRead};
 
 use super::piece::read_piece;
 use super::{Input, ScriptFault};
@@ -60,6 +60,10 @@ impl Input {
         ensures taken { taken self.new ≡ taken self.old }
         ensures over { (total : ℕ) (s : List ℕ) → IsLeft self.old (S.left script.old) total s →
             IsErrOf result ScriptFault.TooLong → MOST_SCRIPT < total }
+        ensures given { (first : ℕ) → HasGiven first self.old.came (S.given script.old) →
+            OnOk result (HasGiven first self.new.came (S.given script.new)) }
+        ensures many { (first : ℕ) → HasGiven first self.old.came (S.given script.old) →
+            IsErrOf result ScriptFault.TooLong → GaveTooMany first (S.given script.new) }
         ensures later { S.faults script.old ≤ S.faults script.new }
         ensures failed { IsErrOf result ScriptFault.Failed → Rose (S.faults script.old) (S.faults script.new) }
     {
@@ -90,6 +94,10 @@ impl Input {
         ensures taken { taken self.old ≤ taken self.new }
         ensures over { (total : ℕ) (s : List ℕ) → IsLeft self.old (S.left script.old) total s →
             IsErrOf result ScriptFault.TooLong → MOST_SCRIPT < total }
+        ensures given { (first : ℕ) → HasGiven first self.old.came (S.given script.old) →
+            OnOk result (HasGiven first self.new.came (S.given script.new)) }
+        ensures many { (first : ℕ) → HasGiven first self.old.came (S.given script.old) →
+            IsErrOf result ScriptFault.TooLong → GaveTooMany first (S.given script.new) }
         ensures later { S.faults script.old ≤ S.faults script.new }
         ensures failed { IsErrOf result ScriptFault.Failed → Rose (S.faults script.old) (S.faults script.new) }
     {

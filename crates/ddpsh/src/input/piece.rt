@@ -1,6 +1,7 @@
 // One piece of a script.
 ghost use Rattle.std.specs.Prelude.{◌≡◌, ◌+◌, ◌≤◌, ◌<◌, ◌^◌, ℕ, List, Some, length, take, drop, IfOk, IsErrOf};
 ghost use Rattle.ddpsh.specs.declared.limits.TheConstants.{MOST_SCRIPT};
+ghost use Rattle.ddpsh.specs.Input.{HasGiven, GaveTooMany};
 ghost use Rattle.vdisk.specs.Causes.{Rose};
 
 use super::ScriptFault;
@@ -23,6 +24,10 @@ pub(super) fn read_piece<S: Source>(
         × (n ≤ length s) × (n ≡ 0 → length s ≡ 0)) }
     ensures over { (s : List ℕ) → S.left script.old ≡ Some s →
         IsErrOf result ScriptFault.TooLong → MOST_SCRIPT < came + length s }
+    ensures given { (first : ℕ) → HasGiven first came (S.given script.old) →
+        IfOk result (λ n. HasGiven first (came + n) (S.given script.new)) }
+    ensures many { (first : ℕ) → HasGiven first came (S.given script.old) →
+        IsErrOf result ScriptFault.TooLong → GaveTooMany first (S.given script.new) }
     ensures later { S.faults script.old ≤ S.faults script.new }
     ensures failed { IsErrOf result ScriptFault.Failed → Rose (S.faults script.old) (S.faults script.new) }
 {

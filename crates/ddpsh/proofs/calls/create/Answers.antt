@@ -4,17 +4,18 @@ use Rattle.cmdlet_line.specs.Lines.{Create}
 use Rattle.plain_volume.specs.Replies.{done_reply}
 use Rattle.plain_volume.specs.declared.call.Call.TheVariants as call
 use Rattle.ddpsh.specs.Script.{Bare}
-use Rattle.ddpsh.proofs.CallLaws.{Called, comes_call, fits_once, steady_call}
+use Rattle.ddpsh.proofs.CallLaws.{Called, took, comes_call, fits_once, steady_call}
 use Rattle.ddpsh.proofs.calls.create.Goals as goal
 
 pub returns-clause-told : goal.returns-clause-told
 returns-clause-told g c w kept =
     let did : Called (call.Create c.args.name.now) c.args.volume.now c.create-given.new.self (done_reply c.create-given.result) = record {
       law = c.own_replies_are_steps.ensures;
-      replied = c.create-given.ensures.reply;
+      replied = took (call.Create c.args.name.now) c.args.volume.now c.create-given.new.self (done_reply c.create-given.result) refl c.create-given.ensures.reply;
       left = c.create-given.ensures.left;
       want = c.create-given.ensures.want;
       fails = refl;
+      moves = c.create-given.ensures.moves;
       endures = c.create-given.ensures.endures;
       adds = c.create-given.ensures.adds;
     } in

@@ -16,6 +16,7 @@ returns-clause-told g c w kept =
       left = c.delete-given.ensures.left;
       want = c.delete-given.ensures.want;
       fails = refl;
+      moves = c.delete-given.ensures.moves;
       endures = c.delete-given.ensures.endures;
       adds = c.delete-given.ensures.adds;
     } in

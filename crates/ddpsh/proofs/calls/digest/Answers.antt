@@ -21,6 +21,7 @@ returns-in-Ok-clause-told g c w kept =
           ∙ sym (digest_after (view_now c.args.volume.now) c.args.name.now (digest_reply (Ok c.in-Ok.digest)));
       want = tt;
       fails = refl;
+      moves = c.in-Ok.ensures.moves;
       endures = c.digest.ensures.endures;
       adds = c.digest.ensures.adds;
     } in
@@ -41,6 +42,7 @@ returns-in-Err-clause-told g c w kept =
           ∙ sym (digest_after (view_now c.args.volume.now) c.args.name.now (digest_reply (Err c.in-Err.fault)));
       want = tt;
       fails = refl;
+      moves = c.in-Err.ensures.moves;
       endures = c.digest.ensures.endures;
       adds = c.digest.ensures.adds;
     } in

@@ -1,9 +1,8 @@
-use Rattle.std.proofs.Common.{◌≡◌, Ok, Err, refl, arith, ap}
+use Rattle.std.proofs.Common.{◌≡◌, Ok, Err, arith, ap}
 use Rattle.cmdlet_line.specs.Lines.{Exit}
 use Rattle.plain_volume.specs.declared.call.Fault.TheVariants as fault
 use Rattle.ddpsh.specs.Script.{Bare}
 use Rattle.ddpsh.specs.declared.answers.Answered.TheVariants as answered
-use Rattle.ddpsh.specs.Answers.{Accepted, text_of}
 use Rattle.ddpsh.proofs.CallLaws.{Flushed, broke_none, exit_done, exit_refused, steady_call, steady_none}
 use Rattle.ddpsh.proofs.calls.exit.Goals as goal
 
@@ -16,6 +15,8 @@ returns-in-Ok-flush-clause-told g c w kept =
       replied = c.in-Ok-flush.ensures.reply;
       left = c.in-Ok-flush.ensures.left;
       durable = c.in-Ok-flush.ensures.durable w kept;
+      stored = c.in-Ok-flush.ensures.stored w kept;
+      moves = c.in-Ok-flush.ensures.moves;
       endures = c.flush.ensures.endures;
       adds = c.flush.ensures.adds;
     } in
@@ -27,6 +28,8 @@ returns-in-Err-flush-clause-told g c w kept =
       replied = c.in-Err-flush.ensures.reply;
       left = c.in-Err-flush.ensures.left;
       durable = tt;
+      stored = tt;
+      moves = c.in-Err-flush.ensures.moves;
       endures = c.flush.ensures.endures;
       adds = c.flush.ensures.adds;
     } in

@@ -5,7 +5,7 @@ use Rattle.plain_volume.specs.Replies.{done_reply}
 use Rattle.plain_volume.specs.declared.call.Call.TheVariants as call
 use Rattle.ddpsh.specs.Script.{Bare}
 use Rattle.ddpsh.specs.declared.stops.SessionFault.TheVariants as stop
-use Rattle.ddpsh.proofs.CallLaws.{Called, comes_call, fits_once, broke_none, filled_as, steady_call, steady_none}
+use Rattle.ddpsh.proofs.CallLaws.{Called, took, comes_call, fits_once, broke_none, filled_as, steady_call, steady_none}
 use Rattle.ddpsh.proofs.calls.fill.Goals as goal
 
 pub returns-in-Ok-clause-told : goal.returns-in-Ok-clause-told
@@ -13,10 +13,11 @@ returns-in-Ok-clause-told g c w kept =
     let did : Called (call.Write c.args.name.now c.args.at c.deref.result.now) c.args.volume.now c.write-given.new.self
     (done_reply c.write-given.result) = record {
       law = c.own_replies_are_steps.ensures;
-      replied = c.write-given.ensures.reply;
+      replied = took (call.Write c.args.name.now c.args.at c.deref.result.now) c.args.volume.now c.write-given.new.self (done_reply c.write-given.result) refl c.write-given.ensures.reply;
       left = c.write-given.ensures.left w kept;
       want = c.write-given.ensures.want;
       fails = refl;
+      moves = c.write-given.ensures.moves w kept;
       endures = c.write-given.ensures.endures;
       adds = c.write-given.ensures.adds;
     } in

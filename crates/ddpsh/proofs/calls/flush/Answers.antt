@@ -14,6 +14,7 @@ returns-clause-told g c w kept =
       left = c.flush-given.ensures.left;
       want = c.flush-given.ensures.want;
       fails = refl;
+      moves = c.flush-given.ensures.moves;
       endures = c.flush-given.ensures.endures;
       adds = c.flush-given.ensures.adds;
     } in
@@ -21,6 +22,8 @@ returns-clause-told g c w kept =
       replied = c.flush-given.ensures.reply;
       left = c.flush-given.ensures.left;
       durable = c.flush-given.ensures.durable w kept;
+      stored = c.flush-given.ensures.stored w kept;
+      moves = c.flush-given.ensures.moves;
       endures = c.flush-given.ensures.endures;
       adds = c.flush-given.ensures.adds;
     } in

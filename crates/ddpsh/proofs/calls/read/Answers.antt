@@ -7,7 +7,7 @@ use Rattle.plain_volume.specs.declared.call.Call.TheVariants as call
 use Rattle.cmdlet_line.specs.Lines.{Read}
 use Rattle.ddpsh.specs.Script.{Bare}
 use Rattle.volume_core.specs.Volumes.{view_now}
-use Rattle.ddpsh.proofs.CallLaws.{Called, Fits, comes_call, called_as, fits_once, broke_none, ended_said, read_text, read_after, size_room, put_size}
+use Rattle.ddpsh.proofs.CallLaws.{Called, comes_call, called_as, fits_once, broke_none, ended_said, read_text, read_after, size_room, put_size}
 use Rattle.ddpsh.proofs.calls.read.Goals as goal
 
 pub returns-in-Err-clause-told : goal.returns-in-Err-clause-told
@@ -29,6 +29,7 @@ returns-in-Ok-read_into-clause-told g c w kept =
       left = c.read_into.ensures.left ∙ sym (read_after (view_now c.args.volume.now) c.args.name.now c.args.at (length (take (length d - place) (drop place d))) (bytes_reply out (Ok tt)));
       want = tt;
       fails = refl;
+      moves = c.in-Ok-read_into.ensures.moves;
       endures = c.read_into.ensures.endures;
       adds = c.read_into.ensures.adds;
     } in
@@ -52,6 +53,7 @@ returns-in-Err-read_into-clause-told g c w kept =
       left = c.read_into.ensures.left ∙ sym (read_after (view_now c.args.volume.now) c.args.name.now c.args.at (length (take (length d - place) (drop place d))) (bytes_reply c.read_into.new.out (Err c.in-Err-read_into.fault)));
       want = tt;
       fails = refl;
+      moves = c.in-Err-read_into.ensures.moves;
       endures = c.read_into.ensures.endures;
       adds = c.read_into.ensures.adds;
     } in

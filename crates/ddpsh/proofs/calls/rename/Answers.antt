@@ -4,7 +4,7 @@ use Rattle.cmdlet_line.specs.Lines.{Rename}
 use Rattle.plain_volume.specs.Replies.{done_reply}
 use Rattle.plain_volume.specs.declared.call.Call.TheVariants as call
 use Rattle.ddpsh.specs.Script.{Bare}
-use Rattle.ddpsh.proofs.CallLaws.{Called, comes_call, fits_once, steady_call}
+use Rattle.ddpsh.proofs.CallLaws.{Called, took, comes_call, fits_once, steady_call}
 use Rattle.ddpsh.proofs.calls.rename.Goals as goal
 
 pub returns-clause-told : goal.returns-clause-told
@@ -12,10 +12,11 @@ returns-clause-told g c w kept =
     let did : Called (call.Rename c.args.from.now c.args.to.now) c.args.volume.now c.rename-given.new.self
     (done_reply c.rename-given.result) = record {
       law = c.own_replies_are_steps.ensures;
-      replied = c.rename-given.ensures.reply;
+      replied = took (call.Rename c.args.from.now c.args.to.now) c.args.volume.now c.rename-given.new.self (done_reply c.rename-given.result) refl c.rename-given.ensures.reply;
       left = c.rename-given.ensures.left;
       want = c.rename-given.ensures.want;
       fails = refl;
+      moves = c.rename-given.ensures.moves;
       endures = c.rename-given.ensures.endures;
       adds = c.rename-given.ensures.adds;
     } in

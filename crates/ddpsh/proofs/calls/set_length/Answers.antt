@@ -16,6 +16,7 @@ returns-clause-told g c w kept =
       left = c.set_length-given.ensures.left;
       want = c.set_length-given.ensures.want;
       fails = refl;
+      moves = c.set_length-given.ensures.moves;
       endures = c.set_length-given.ensures.endures;
       adds = c.set_length-given.ensures.adds;
     } in

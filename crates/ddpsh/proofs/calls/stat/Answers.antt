@@ -1,4 +1,4 @@
-use Rattle.std.proofs.Common.{◌∙◌, sym, refl, inl, Ok, Err}
+use Rattle.std.proofs.Common.{sym, refl, inl, Ok, Err}
 use Rattle.cmdlet_line.specs.Lines.{Stat}
 use Rattle.plain_volume.specs.declared.call.Call.TheVariants as call
 use Rattle.plain_volume.specs.declared.call.Reply.TheVariants as reply
@@ -6,7 +6,7 @@ use Rattle.ddpsh.specs.Answers.{Accepted, number}
 use Rattle.ddpsh.specs.Script.{Bare}
 use Rattle.volume_core.specs.Volumes.{view_now}
 use Rattle.volume_core.specs.Replies.{length_reply}
-use Rattle.ddpsh.proofs.CallLaws.{Told, comes_told, fits_once, known_said, stat_after}
+use Rattle.ddpsh.proofs.CallLaws.{Told, comes_told, fits_once, known_said, stat_after, stat_moves}
 use Rattle.ddpsh.proofs.calls.stat.Goals as goal
 
 pub returns-in-Ok-clause-told : goal.returns-in-Ok-clause-told
@@ -15,6 +15,7 @@ returns-in-Ok-clause-told g c =
       law = c.own_replies_are_steps.ensures;
       own = inl c.in-Ok.ensures;
       left = sym (stat_after (view_now c.args.volume.now) c.args.name.now (length_reply (Ok c.in-Ok.size)));
+      moves = stat_moves c.args.volume.now c.args.name.now (length_reply (Ok c.in-Ok.size)) c.volumes_wear_at_the_last_epoch.ensures;
       unwanting = refl;
     } in
     rw c.called.ensures
@@ -29,6 +30,7 @@ returns-in-Err-clause-told g c =
       law = c.own_replies_are_steps.ensures;
       own = inl c.in-Err.ensures;
       left = sym (stat_after (view_now c.args.volume.now) c.args.name.now (length_reply (Err c.in-Err.fault)));
+      moves = stat_moves c.args.volume.now c.args.name.now (length_reply (Err c.in-Err.fault)) c.volumes_wear_at_the_last_epoch.ensures;
       unwanting = refl;
     } in
     rw c.called-in-Err.ensures

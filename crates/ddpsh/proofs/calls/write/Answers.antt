@@ -4,17 +4,18 @@ use Rattle.cmdlet_line.specs.Lines.{Write}
 use Rattle.plain_volume.specs.Replies.{done_reply}
 use Rattle.plain_volume.specs.declared.call.Call.TheVariants as call
 use Rattle.ddpsh.specs.Script.{Paid}
-use Rattle.ddpsh.proofs.CallLaws.{Called, comes_call, fits_once, steady_call}
+use Rattle.ddpsh.proofs.CallLaws.{Called, took, comes_call, fits_once, steady_call}
 use Rattle.ddpsh.proofs.calls.write.Goals as goal
 
 pub returns-clause-told : goal.returns-clause-told
 returns-clause-told g c w kept =
     let did : Called (call.Write c.args.name.now c.args.at c.args.payload.now) c.args.volume.now c.write-given.new.self (done_reply c.write-given.result) = record {
       law = c.own_replies_are_steps.ensures;
-      replied = c.write-given.ensures.reply;
+      replied = took (call.Write c.args.name.now c.args.at c.args.payload.now) c.args.volume.now c.write-given.new.self (done_reply c.write-given.result) refl c.write-given.ensures.reply;
       left = c.write-given.ensures.left w kept;
       want = c.write-given.ensures.want;
       fails = refl;
+      moves = c.write-given.ensures.moves w kept;
       endures = c.write-given.ensures.endures;
       adds = c.write-given.ensures.adds;
     } in

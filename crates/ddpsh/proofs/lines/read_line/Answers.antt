@@ -1,6 +1,7 @@
-use Rattle.std.proofs.Common.{◌≡◌, ◌<◌, ◌-◌, rules, Err, ap, arith}
+use Rattle.std.proofs.Common.{ℕ, sym, subst, ◌≡◌, ◌<◌, ◌-◌, rules, Err, ap, arith}
 use Rattle.ddpsh.specs.Input.{taken}
 use Rattle.ddpsh.proofs.LineLaws.{line_over, line_whole, front_read, some_kept}
+use Rattle.ddpsh.specs.Input.{HasGiven}
 use Rattle.ddpsh.proofs.lines.read_line.Goals as goal
 use Rattle.ddpsh.specs.declared.input.ScriptFault.TheVariants as fault
 
@@ -32,5 +33,21 @@ pieces-preserved g c =
       begun = λ some. omega (arith, c.ready.ensures.taken);
       room = search rules;
       few = search rules;
+      given = λ first so.
+          subst (λ (n : ℕ). HasGiven first n (g.S.Source.given c.ready.new.script)) (sym c.take_ahead.ensures.came)
+          (c.in-Ok.ensures.given first (c.pieces.invariant.given first so));
       later = omega (arith, c.ready.ensures.later);
     }
+
+pub returns-in-Err-clause-many : goal.returns-in-Err-clause-many
+returns-in-Err-clause-many g c first so over =
+    let e : c.in-Err.fault ≡ fault.TooLong = cc in
+    c.in-Err.ensures.many first (c.pieces.invariant.given first so) (ap Err e)
+
+pub returns-then-not-more-clause-given : goal.returns-then-not-more-clause-given
+returns-then-not-more-clause-given g c first so = c.in-Ok.ensures.given first (c.pieces.invariant.given first so)
+
+pub returns-then-take_ahead-clause-given : goal.returns-then-take_ahead-clause-given
+returns-then-take_ahead-clause-given g c first so =
+    subst (λ (n : ℕ). HasGiven first n (g.S.Source.given c.ready.new.script)) (sym c.take_ahead.ensures.came)
+    (c.in-Ok.ensures.given first (c.pieces.invariant.given first so))

@@ -1,5 +1,5 @@
 use Rattle.std.proofs.Common.{◌≤◌, ◌<◌, ◌-◌, ◌^◌, ℕ, List, vec_len, vec_capacity}
-use Rattle.ddpsh.specs.Input.{taken, IsLeft}
+use Rattle.ddpsh.specs.Input.{taken, IsLeft, HasGiven}
 use Rattle.ddpsh.specs.Reading.{IsFront}
 use Rattle.ddpsh.proofs.lines.read_line.Given as goal
 
@@ -10,6 +10,7 @@ invariant-pieces g l = record {
   begun : 0 < vec_len l.line → taken l.fn.input < taken l.input;
   room : 4098 ≤ vec_capacity l.line;
   few : vec_len l.line ≤ 4098;
+  given : (first : ℕ) → HasGiven first l.fn.input.came (g.S.Source.given l.fn.script) → HasGiven first l.input.came (g.S.Source.given l.script);
   later : g.S.Source.faults l.fn.script ≤ g.S.Source.faults l.script;
 }
 

@@ -1,5 +1,6 @@
-use Rattle.std.proofs.Common.{◌≡◌, ◌∙◌, rules, Err, ap, arith}
+use Rattle.std.proofs.Common.{ℕ, sym, subst, ◌≡◌, ◌∙◌, rules, Err, ap, arith}
 use Rattle.ddpsh.proofs.LineLaws.{behind_over}
+use Rattle.ddpsh.specs.Input.{HasGiven}
 use Rattle.ddpsh.proofs.lines.skip_line.Goals as goal
 use Rattle.ddpsh.specs.declared.input.ScriptFault.TheVariants as fault
 
@@ -27,5 +28,21 @@ pieces-preserved g c = record {
       let passed = c.if-pass_ahead.ensures.left _ total here.0 (c.in-Ok.ensures.left total here.0 here.1) in
       (passed.0, passed.1, here.2 ∙ passed.2);
   grows = omega (arith, c.pass_ahead.ensures.grows, c.ready.ensures.taken);
+  given = λ first so.
+      subst (λ (n : ℕ). HasGiven first n (g.S.Source.given c.ready.new.script)) (sym c.pass_ahead.ensures.came)
+      (c.in-Ok.ensures.given first (c.pieces.invariant.given first so));
   later = omega (arith, c.ready.ensures.later);
 }
+
+pub returns-in-Err-clause-many : goal.returns-in-Err-clause-many
+returns-in-Err-clause-many g c first so over =
+    let e : c.in-Err.fault ≡ fault.TooLong = cc in
+    c.in-Err.ensures.many first (c.pieces.invariant.given first so) (ap Err e)
+
+pub returns-then-not-more-clause-given : goal.returns-then-not-more-clause-given
+returns-then-not-more-clause-given g c first so = c.in-Ok.ensures.given first (c.pieces.invariant.given first so)
+
+pub returns-then-pass_ahead-clause-given : goal.returns-then-pass_ahead-clause-given
+returns-then-pass_ahead-clause-given g c first so =
+    subst (λ (n : ℕ). HasGiven first n (g.S.Source.given c.ready.new.script)) (sym c.pass_ahead.ensures.came)
+    (c.in-Ok.ensures.given first (c.pieces.invariant.given first so))

@@ -1,5 +1,5 @@
 use Rattle.std.proofs.Common.{◌≡◌, ◌≤◌, ◌-◌, ◌^◌, ℕ, List}
-use Rattle.ddpsh.specs.Input.{taken, IsLeft}
+use Rattle.ddpsh.specs.Input.{taken, IsLeft, HasGiven}
 use Rattle.ddpsh.specs.Script.{behind_line}
 use Rattle.ddpsh.proofs.lines.skip_line.Given as goal
 
@@ -7,6 +7,7 @@ abbrev pub invariant-pieces : goal.invariant-pieces
 invariant-pieces g l = record {
   so : (total : ℕ) (s : List ℕ) → IsLeft l.fn.input (g.S.Source.left l.fn.script) total s → (rest : List ℕ) × IsLeft l.input (g.S.Source.left l.script) total rest × (behind_line s ≡ behind_line rest);
   grows : taken l.fn.input ≤ taken l.input;
+  given : (first : ℕ) → HasGiven first l.fn.input.came (g.S.Source.given l.fn.script) → HasGiven first l.input.came (g.S.Source.given l.script);
   later : g.S.Source.faults l.fn.script ≤ g.S.Source.faults l.script;
 }
 

@@ -23,3 +23,18 @@ pub returns-clause-payload : goal.returns-clause-payload
 returns-clause-payload g c total s so =
     let size : length c.read_whole.new.out ≡ c.args.count + 1 = omega (arith, c.if-not-make_room.ensures, c.deref_mut.ensures.len) in
     payload_whole _ _ total c.args.count c.in-Ok.got s c.read_whole.new.out _ size (c.in-Ok.ensures.bytes total s so) (c.truncate.ensures.items ∙ ap (take c.in-Ok.got) (with_items_is c.make_room.new.payload c.read_whole.new.out (omega (arith, c.deref_mut.ensures.len)))) (spoilt_of _ _ c.args.count c.deref.ensures.value (sym c.is_spoilt_at.ensures ∙ c.if-is_spoilt_at.false))
+
+pub returns-in-Err-clause-many : goal.returns-in-Err-clause-many
+returns-in-Err-clause-many g c first so over =
+    let e : c.in-Err.fault ≡ fault.TooLong = cc in
+    c.in-Err.ensures.many first so (ap Err e)
+
+pub returns-then-is_spoilt_at-clause-given : goal.returns-then-is_spoilt_at-clause-given
+returns-then-is_spoilt_at-clause-given g c first so = c.skip_line.ensures.given first (c.in-Ok.ensures.given first so)
+
+pub returns-then-is_spoilt_at-clause-many : goal.returns-then-is_spoilt_at-clause-many
+returns-then-is_spoilt_at-clause-many g c first so over =
+    c.skip_line.ensures.many first (c.in-Ok.ensures.given first so) over
+
+pub returns-clause-given : goal.returns-clause-given
+returns-clause-given g c first so = c.in-Ok.ensures.given first so

@@ -29,5 +29,14 @@ loop-done-preserved g c =
           let here = c.loop-done.invariant.so total s so in
           read_on _ _ _ _ total s c.loop-done.out c.read.new.out _ c.loop-done.done c.in-Ok.count c.loop-done.invariant.within few here (c.in-Ok.ensures.bytes total _ here.left);
       grows = omega (arith, c.read.ensures.taken);
+      given = λ first so. c.in-Ok.ensures.given first (c.loop-done.invariant.given first so);
       later = omega (arith, c.read.ensures.later);
     }
+
+pub returns-in-Err-clause-many : goal.returns-in-Err-clause-many
+returns-in-Err-clause-many g c first so over =
+    let e : c.in-Err.fault ≡ fault.TooLong = cc in
+    c.in-Err.ensures.many first (c.loop-done.invariant.given first so) (ap Err e)
+
+pub returns-in-Ok-eq0-clause-given : goal.returns-in-Ok-eq0-clause-given
+returns-in-Ok-eq0-clause-given g c first so = c.in-Ok-eq0.ensures.given first (c.loop-done.invariant.given first so)

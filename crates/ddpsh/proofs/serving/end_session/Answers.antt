@@ -1,5 +1,4 @@
-use Rattle.std.proofs.Common.{refl, ◌≡◌, sym, ap, ◌∙◌, ◌++◌, subst}
-use Rattle.ddpsh.specs.Acks.{ack_list}
+use Rattle.std.proofs.Common.{refl}
 use Rattle.ddpsh.specs.declared.ending.End.TheVariants as ends
 use Rattle.ddpsh.proofs.LineOfLaws.{step_end_as, step_end_none}
 use Rattle.ddpsh.proofs.serving.end_session.Goals as goal

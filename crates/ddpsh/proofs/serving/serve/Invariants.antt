@@ -1,9 +1,10 @@
 use Rattle.std.proofs.Common.{◌≡◌, ◌≤◌, ◌-◌, ◌^◌, ℕ, false, List, length, Some, vec_capacity}
-use Rattle.ddpsh.specs.Input.{taken, IsLeft}
+use Rattle.ddpsh.specs.Input.{taken, IsLeft, HasGiven}
 use Rattle.ddpsh.specs.Script.{volume_text}
 use Rattle.volume_core.specs.Volumes.{disk_of, view_now, IsKept}
 use Rattle.ddpsh.specs.Served.{StaysSame}
 use Rattle.ddpsh.specs.Sessions.{is_over}
+use Rattle.ddpsh.specs.Clocks.{AreRead}
 use Rattle.ddpsh.specs.Steps.{Stage}
 use Rattle.ddpsh.proofs.serving.serve.Given as goal
 
@@ -11,7 +12,10 @@ abbrev pub invariant-items : goal.invariant-items
 invariant-items g l = record {
   so : IsKept l.fn.session.volume (view_now l.fn.session.volume) → (s : List ℕ) → g.S.Source.left l.fn.script ≡ Some s →
       Stage l.fn.session l.session s l.input (g.S.Source.left l.script) (g.K.Sink.held l.fn.out) (g.K.Sink.held l.out) l.refused l.lines l.acks.items;
+  clock : IsKept l.fn.session.volume (view_now l.fn.session.volume) → (s : List ℕ) → g.S.Source.left l.fn.script ≡ Some s →
+      AreRead l.lines (g.C.Clock.answers l.fn.clock) (g.C.Clock.answers l.clock);
   read : (s : List ℕ) → g.S.Source.left l.fn.script ≡ Some s → (rest : List ℕ) × IsLeft l.input (g.S.Source.left l.script) (length s) rest;
+  given : HasGiven (g.S.Source.given l.fn.script) l.input.came (g.S.Source.given l.script);
   running : is_over l.session ≡ false;
   text : l.session.text ≡ volume_text;
   same : StaysSame l.fn.session.volume l.session.volume;

@@ -1,9 +1,8 @@
-use Rattle.std.proofs.Common.{◌≡◌, ⊎_elim, sym, subst, ℕ}
-use Rattle.ddpsh.specs.Opens.{IsRefusal, is_reason}
-use Rattle.ddpsh.specs.Whole.{IsRun}
+use Rattle.std.proofs.Common.{⊎_elim}
 use Rattle.ddpsh.proofs.CommandLaws.{asks_one}
 use Rattle.ddpsh.proofs.CompleteLaws.{complete_by, not_refused}
 use Rattle.ddpsh.proofs.TopLaws.{run_lent, refused_lent, rose_lent}
+use Rattle.ddpsh.proofs.ClockLaws.{often_none}
 use Rattle.ddpsh.proofs.top.run.Goals as goal
 
 pub returns-in-Some-clause-run : goal.returns-in-Some-clause-run
@@ -32,4 +31,7 @@ returns-in-Some-clause-complete g c command asks can disk_held clock_held sink_h
     c.run_over-back.result.0.now same lent (run.refused five) in
     not_refused c.an_image_has_one_inside.ensures command _ _ is.0 can is.1 is.2)
     (λ six. sink_held (run.sink six))
-    (λ seven. ⊎_elim (λ rose. absurd (source_held rose)) (λ long. long s told) (run.source seven))
+    (λ seven. ⊎_elim (λ rose. absurd (source_held rose)) (λ long. long.1 s told) (run.source seven))
+
+pub returns-in-None-clause-clock : goal.returns-in-None-clause-clock
+returns-in-None-clause-clock g c tells s told = often_none _ _ _ c.early.ensures.no_line

@@ -1,6 +1,6 @@
-use Rattle.std.proofs.Common.{◌≡◌, refl, sym, subst, rules}
-use Rattle.volume_core.specs.Volumes.{view_now, IsKept}
+use Rattle.std.proofs.Common.{refl}
 use Rattle.ddpsh.proofs.TopLaws.{printed_since, served_run, kept_as, source_by}
+use Rattle.ddpsh.proofs.ClockLaws.{often_status}
 use Rattle.ddpsh.proofs.top.serve_script.Goals as goal
 
 pub returns-clause-run : goal.returns-clause-run
@@ -22,4 +22,9 @@ returns-clause-ended g c = record {
 pub returns-clause-source : goal.returns-clause-source
 returns-clause-source g c seven =
     source_by c.serve-acks.result.0.end c.serve-acks.result.0.refused c.status.result _ _ c.status.ensures seven c.serve-acks.ensures.source
-    (λ e s told. c.serve-acks.ensures.too_long s told e)
+    (λ e. (c.serve-acks.ensures.many e, λ s told. c.serve-acks.ensures.too_long s told e))
+
+pub returns-clause-clock : goal.returns-clause-clock
+returns-clause-clock g c kept s told =
+    often_status c.serve-acks.result.0.end c.serve-acks.result.0.refused c.serve-acks.result.0.lines _ _ _ _ c.status.ensures refl
+    (c.serve-acks.ensures.clock (kept_as c.args.volume c.new-session.result.volume c.new-session.ensures.volume kept) s told)

@@ -1,4 +1,5 @@
-use Rattle.std.proofs.Common.{◌≡◌, ◌≤◌, ◌<◌, ◌+◌, ◌-◌, ◌*◌, ℕ, length, sym, ◌∙◌, ap, subst, arith, refl}
+use Rattle.std.proofs.Common.{◌≡◌, ◌≤◌, ◌<◌, ◌+◌, ◌-◌, ◌*◌, ℕ, length, sym, ◌∙◌, ap, subst, inl, inr, ⊎_elim, arith}
+use Rattle.std.proofs.Common.{refl}
 use Rattle.std.specs.Prelude.{Option, IsSome}
 use Rattle.std.specs.FinMap.{find}
 use Rattle.cluster_space.specs.declared.state.State.TheVariants.{Used, Deferred}
@@ -17,6 +18,8 @@ use Rattle.volume_files.proofs.Setting.{sorted_now, held_now}
 use Rattle.volume_files.proofs.States.{places_differ, used_is_not_deferred}
 use Rattle.volume_files.proofs.Touched.{fits_next, extents_then, cells_then, put_covers, cell_apart}
 use Rattle.volume_files.proofs.Spent.{spends_none, spends_then, spends_block}
+use Rattle.volume_files.proofs.Insides.{blocks_then}
+use Rattle.volume_files.proofs.ReadFirst.{reads_later}
 use Rattle.volume_files.proofs.blocks.+write_blocks.Goals as goal
 
 pub write_blocks-requires : goal.write_blocks-requires
@@ -24,13 +27,13 @@ write_blocks-requires g t c κs within =
     let a = c.args.tables.now in
     let u = c.write_block.new.tables in
     let to : ℕ = c.args.at + length c.args.bytes.now in
-    let w = c.in_ok-write_block.ensures in
+    let w = c.in_ok-written.ensures in
     let low : 4096 * c.args.index < to = omega arith in
     let fewer : blocks_up_to to (c.args.index + 1) + 1 ≡ blocks_up_to to c.args.index = omega arith in
     let fits : checkpoint_of u + 24 * missing (tables_now u) c.args.file (c.args.index + 1)
     (blocks_up_to to (c.args.index + 1)) ≤ half_bytes a.clusters =
     fits_next (tables_now a) (tables_now u) c.args.file c.args.index to (checkpoint_of a) (checkpoint_of u)
-    (half_bytes a.clusters) c.in_ok-write_block.field-0 low w.ok c.requires.fits
+    (half_bytes a.clusters) c.in_ok-written.written.extent low w.ok c.requires.fits
     (w.checkpoint ∙ ap (λ (o : Option Extent). checkpoint_of a + new_bytes o 24) c.get_extent-was.ensures) in (
       omega arith,
       (
@@ -51,9 +54,12 @@ write_blocks-requires g t c κs within =
                       omega (arith, fewer, w.free, c.requires.clusters),
                       (
                         omega (arith, fewer, w.staged, c.requires.room),
-                        subst (λ (n : ℕ). checkpoint_of u + 24 * missing (tables_now u) c.args.file
-                            (c.args.index + 1) (blocks_up_to to (c.args.index + 1)) ≤ half_bytes n)
-                            (sym w.leaves.clusters) fits,
+                        (
+                          subst (λ (n : ℕ). checkpoint_of u + 24 * missing (tables_now u) c.args.file
+                              (c.args.index + 1) (blocks_up_to to (c.args.index + 1)) ≤ half_bytes n)
+                              (sym w.leaves.clusters) fits,
+                          (w.free_ahead, w.filled),
+                        ),
                       ),
                     ),
                   ),
@@ -68,14 +74,14 @@ write_blocks-requires g t c κs within =
 pub take_back-requires-clause-there : goal.take_back-requires-clause-there
 take_back-requires-clause-there g t c =
     let k : FileBlock = (c.args.file, c.args.index) in
-    let e = c.in_ok-write_block.field-0 in
-    let found = ap (λ (q : Typed). find pair_cmp k q.extents) (c.in-Err.ensures.err ∙ c.in_ok-write_block.ensures.ok)
+    let e = c.in_ok-written.written.extent in
+    let found = ap (λ (q : Typed). find pair_cmp k q.extents) (c.in-Err.ensures.err ∙ c.in_ok-written.ensures.ok)
     ∙ found_put k e (tables_now c.args.tables.now).extents in
     subst (λ (o : Option Extent). IsSome o) (sym found) refl
 
 pub take_back-requires-clause-deferred : goal.take_back-requires-clause-deferred
 take_back-requires-clause-deferred g t c o was =
-    let has = c.in_ok-write_block.ensures.replaced o was in
+    let has = c.in_ok-written.ensures.replaced o was in
     let clusters = c.write_blocks.ensures.leaves.clusters in
     let there : first_data_cluster c.write_blocks.new.tables.clusters ≡ first_data_cluster
     c.write_block.new.tables.clusters = ap first_data_cluster clusters in
@@ -90,26 +96,27 @@ pub returns-in-Ok-clause-ok : goal.returns-in-Ok-clause-ok
 returns-in-Ok-clause-ok g t c =
     extents_then c.args.file c.args.index (c.args.at + length c.args.bytes.now) (tables_now c.args.tables.now)
     (tables_now c.write_block.new.tables) (tables_now c.write_blocks.new.tables)
-    c.in_ok-write_block.field-0 (omega arith) c.in_ok-write_block.ensures.ok c.in-Ok.ensures.ok
+    c.in_ok-written.written.extent (omega arith) c.in_ok-written.ensures.ok c.in-Ok.ensures.ok
 
 pub returns-in-Ok-clause-others : goal.returns-in-Ok-clause-others
 returns-in-Ok-clause-others g t c other p record_of differ =
     let image = (disk_of c.write_block.new.tables).image in
     c.in-Ok.ensures.others other p record_of differ
     ∙ cell_apart (inside_now c.args.tables.now) (inside_now c.write_block.new.tables) c.args.file c.args.index
-    (block_of c.in_ok-write_block.field-0 image) other p record_of differ
-    c.in_ok-write_block.ensures.inside
+    (block_of c.in_ok-written.written.extent image) other p record_of differ
+    c.in_ok-written.ensures.inside
 
 pub returns-in-Ok-clause-cells : goal.returns-in-Ok-clause-cells
-returns-in-Ok-clause-cells g t c stored is p low =
+returns-in-Ok-clause-cells g t c stored is ahead p low =
     let a = c.args.tables.now in
     let u = c.write_block.new.tables in
-    let e = c.in_ok-write_block.field-0 in
-    c.in-Ok.ensures.cells stored (c.write_block.ensures.leaves.tables stored is) p low
+    let e = c.in_ok-written.written.extent in
+    c.in-Ok.ensures.cells stored (c.write_block.ensures.leaves.tables stored is)
+    (c.in_ok-written.ensures.ahead stored is ahead) p low
     ∙ cells_then c.args.file c.args.index c.args.at c.args.bytes.now c.args.grown c.get_extent-was.result
     (tables_now a) (disk_of a).image (block_of e (disk_of u).image) (inside_now u)
     (put_covers a.clusters c.args.file c.args.grown (tables_now a) c.requires.rules) (sym c.get_extent-was.ensures)
-    c.in_ok-write_block.ensures.inside (c.in_ok-write_block.ensures.written stored is) p low
+    c.in_ok-written.ensures.inside (c.in_ok-written.ensures.written stored is ahead) p low
 
 pub returns-in-Ok-clause-leaves : goal.returns-in-Ok-clause-leaves
 returns-in-Ok-clause-leaves g t c =
@@ -119,8 +126,8 @@ returns-in-Ok-clause-leaves g t c =
 pub returns-in-Err-clause-err : goal.returns-in-Err-clause-err
 returns-in-Err-clause-err g t c =
     let a = c.args.tables.now in
-    c.take_back.ensures.tables (tables_now a) c.in_ok-write_block.field-0 (sorted_now a) (sym c.get_extent-was.ensures)
-    (c.in-Err.ensures.err ∙ c.in_ok-write_block.ensures.ok)
+    c.take_back.ensures.tables (tables_now a) c.in_ok-written.written.extent (sorted_now a) (sym c.get_extent-was.ensures)
+    (c.in-Err.ensures.err ∙ c.in_ok-written.ensures.ok)
 
 pub returns-in-Err-clause-leaves : goal.returns-in-Err-clause-leaves
 returns-in-Err-clause-leaves g t c =
@@ -145,10 +152,10 @@ returns-in-Err-clause-deferred g t c k is =
     places_differ a.space (o.cluster - first_data_cluster a.clusters) k Used Deferred used_is_not_deferred has.is is
     place)
 
-pub returns-in_err-write_block-clause-spends : goal.returns-in_err-write_block-clause-spends
-returns-in_err-write_block-clause-spends g t c =
+pub returns-in_err-written-clause-spends : goal.returns-in_err-written-clause-spends
+returns-in_err-written-clause-spends g t c =
     spends_none (blocks_up_to (c.args.at + length c.args.bytes.now) c.args.index) 0 c.args.tables.now
-    c.write_block.new.tables c.in_err-write_block.ensures.err
+    c.write_block.new.tables c.in_err-written.ensures.err
 
 pub returns-in-Ok-clause-spends : goal.returns-in-Ok-clause-spends
 returns-in-Ok-clause-spends g t c =
@@ -158,12 +165,32 @@ returns-in-Ok-clause-spends g t c =
     let low : 4096 * c.args.index < to = omega arith in
     let fewer : blocks_up_to to (c.args.index + 1) + 1 ≡ blocks_up_to to c.args.index = omega arith in
     spends_then 1 (blocks_up_to to (c.args.index + 1)) (blocks_up_to to c.args.index) a u c.write_blocks.new.tables
-    (spends_block a u (c.args.file, c.args.index) c.in_ok-write_block.field-0 c.in_ok-write_block.ensures.ok)
+    (spends_block a u (c.args.file, c.args.index) c.in_ok-written.written.extent c.in_ok-written.ensures.ok)
     c.write_blocks.ensures.spends (omega (arith, fewer))
 
 pub returns-in-Err-clause-spends : goal.returns-in-Err-clause-spends
 returns-in-Err-clause-spends g t c =
     let a = c.args.tables.now in
     spends_none (blocks_up_to (c.args.at + length c.args.bytes.now) c.args.index) 0 a c.take_back.new.tables
-    (c.take_back.ensures.tables (tables_now a) c.in_ok-write_block.field-0 (sorted_now a)
-    (sym c.get_extent-was.ensures) (c.in-Err.ensures.err ∙ c.in_ok-write_block.ensures.ok))
+    (c.take_back.ensures.tables (tables_now a) c.in_ok-written.written.extent (sorted_now a)
+    (sym c.get_extent-was.ensures) (c.in-Err.ensures.err ∙ c.in_ok-written.ensures.ok))
+
+pub returns-in-Ok-clause-inside : goal.returns-in-Ok-clause-inside
+returns-in-Ok-clause-inside g t c stored is ahead =
+    let a = c.args.tables.now in
+    let u = c.write_block.new.tables in
+    let e = c.in_ok-written.written.extent in
+    c.in-Ok.ensures.inside stored (c.write_block.ensures.leaves.tables stored is)
+    (c.in_ok-written.ensures.ahead stored is ahead)
+    ∙ blocks_then c.args.file c.args.grown.length c.args.at c.args.bytes.now c.args.index
+    (c.args.at + length c.args.bytes.now) (inside_now a) (inside_now u) (block_of e (disk_of u).image) (omega arith)
+    c.in_ok-written.ensures.inside (c.in_ok-written.ensures.block stored is ahead)
+
+pub returns-in-Err-clause-halts : goal.returns-in-Err-clause-halts
+returns-in-Err-clause-halts g t c failed =
+    let a = c.args.tables.now in
+    let u = c.write_block.new.tables in
+    ⊎_elim (λ stops. inl (c.take_back.ensures.running ∙ stops))
+    (λ later. inr (reads_later c.args.file c.args.index c.args.at (length c.args.bytes.now) (tables_now a)
+    (tables_now u) c.in_ok-written.written.extent c.in_ok-written.ensures.ok later))
+    (c.in-Err.ensures.halts failed)

@@ -4,7 +4,8 @@ use Rattle.plain_volume.specs.Step.{Outcome, plain}
 use Rattle.plain_volume.specs.Volume.{with_file}
 use Rattle.plain_volume.specs.declared.call.Call.TheVariants.{Create}
 use Rattle.plain_volume.specs.declared.call.Fault.{Fault}
-use Rattle.volume_tables.specs.Tables.{view_now, disk_of}
+use Rattle.volume_tables.specs.Tables.{tables_now, view_now, disk_of}
+use Rattle.volume_files.specs.Names.{with_new}
 use Rattle.volume_files.specs.Needs.{create_needs}
 use Rattle.volume_files.specs.Wants.{wanting, is_late, IsRepliedOrMemory}
 use Rattle.volume_files.proofs.Endured.{endures_leaves}
@@ -12,6 +13,9 @@ use Rattle.volume_files.proofs.Finished.{finished_reply, finished_left}
 use Rattle.volume_files.proofs.NewFile.{answered_new, view_made, view_unmade, sound_made}
 use Rattle.volume_files.proofs.Wanted.{replied_want}
 use Rattle.volume_files.proofs.Spent.{spends_none, spends_new}
+use Rattle.volume_files.specs.Insides.{inside_created}
+use Rattle.volume_files.proofs.Insides.{inside_left, inside_unleft, inside_new}
+use Rattle.std.proofs.lemmas.Result.{on_ok_weaker, on_err_weaker}
 use Rattle.volume_files.proofs.creating.create.Goals as goal
 
 pub returns-in_err-make_room-clause-reply : goal.returns-in_err-make_room-clause-reply
@@ -80,3 +84,21 @@ pub returns-clause-spends : goal.returns-clause-spends
 returns-clause-spends g c =
     spends_new c.args.tables.now c.make_room.new.tables c.put_file.new.tables c.make_room.ensures.now c.args.name.now
     c.put_file.result c.put_file.ensures.ok c.put_file.ensures.err
+
+pub returns-clause-inside : goal.returns-clause-inside
+returns-clause-inside g c =
+    let t = c.args.tables.now in
+    let m = c.make_room.new.tables in
+    let p = c.put_file.new.tables in
+    let name = c.args.name.now in
+    let put = c.put_file.ensures in
+    on_ok_weaker c.put_file.result
+    (inside_left t m p c.make_room.ensures.inside put.image (inside_created name) (with_new name (tables_now m))
+    (inside_new (tables_now m) (disk_of m).image name)) put.ok
+
+pub returns-clause-err_inside : goal.returns-clause-err_inside
+returns-clause-err_inside g c =
+    let put = c.put_file.ensures in
+    on_err_weaker c.put_file.result
+    (inside_unleft c.args.tables.now c.make_room.new.tables c.put_file.new.tables c.make_room.ensures.inside put.image)
+    put.err

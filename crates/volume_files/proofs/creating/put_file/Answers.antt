@@ -1,4 +1,4 @@
-use Rattle.std.proofs.Common.{◌≡◌, ◌+◌, ℕ, not, Some, ◌∙◌, ap}
+use Rattle.std.proofs.Common.{◌+◌, not, Some, ◌∙◌, ap}
 use Rattle.std.specs.Ordering.{nat_cmp}
 use Rattle.table_records.specs.Changes.{is_in_range}
 use Rattle.volume_inside.specs.Changes.{keep_files}

@@ -1,13 +1,19 @@
-use Rattle.std.proofs.Common.{◌≡◌, ◌+◌, length, sym, subst}
+use Rattle.std.proofs.Common.{◌+◌, length}
 use Rattle.volume_inside.specs.Typed.{Typed}
 use Rattle.volume_tables.specs.Tables.{tables_now, clusters_in}
-use Rattle.volume_files.specs.Names.{AreShort}
 use Rattle.volume_files.proofs.Endured.{endures_leaves}
 use Rattle.volume_files.proofs.Found.{lawful_short}
 use Rattle.volume_files.proofs.GoneFile.{view_left_gone, sound_gone}
 use Rattle.volume_files.proofs.OneName.{short_names}
 use Rattle.volume_files.proofs.Resized.{small_id}
 use Rattle.volume_files.proofs.Spent.{spends_none, spends_gone}
+use Rattle.std.proofs.Common.{ap, ◌∙◌}
+use Rattle.std.specs.FinMap.{find}
+use Rattle.byte_map.specs.Words.{bytes_cmp}
+use Rattle.volume_tables.specs.Tables.{disk_of}
+use Rattle.volume_files.specs.Insides.{inside_deleted}
+use Rattle.volume_files.specs.Names.{without_name}
+use Rattle.volume_files.proofs.Insides.{inside_left, inside_gone}
 use Rattle.volume_files.proofs.deleting.delete.Goals as goal
 
 pub drop_all-requires-clause-short : goal.drop_all-requires-clause-short
@@ -56,3 +62,15 @@ pub returns-clause-spends : goal.returns-clause-spends
 returns-clause-spends g c =
     spends_gone c.args.tables.now c.make_room.new.tables c.drop_all.new.tables c.make_room.ensures.now c.args.name.now
     c.in_ok-id.id c.drop_all.ensures.tables
+
+pub returns-clause-inside : goal.returns-clause-inside
+returns-clause-inside g c =
+    let t = c.args.tables.now in
+    let m = c.make_room.new.tables in
+    let name = c.args.name.now in
+    let id = c.in_ok-id.id in
+    let named = ap (λ (q : Typed). find bytes_cmp name q.names) c.make_room.ensures.now
+    ∙ c.in_ok-id.ensures.found.named in
+    inside_left t m c.drop_all.new.tables c.make_room.ensures.inside c.drop_all.ensures.stages.image
+    (inside_deleted name) (without_name name id (tables_now m)) (inside_gone (tables_now m) (disk_of m).image name id named)
+    c.drop_all.ensures.tables

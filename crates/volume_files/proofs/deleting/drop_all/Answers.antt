@@ -1,10 +1,9 @@
-use Rattle.std.proofs.Common.{◌≡◌, ◌+◌, ℕ, Some, not, ◌∙◌, refl, length, arith}
+use Rattle.std.proofs.Common.{◌+◌, Some, not, ◌∙◌, refl, length, arith}
 use Rattle.table_records.specs.Changes.{is_in_range}
 use Rattle.table_records.specs.Keys.{pair_cmp}
 use Rattle.std.specs.Ordering.{nat_cmp}
-use Rattle.volume_inside.specs.Changes.{keep_files, keep_extents, keep_names}
+use Rattle.volume_inside.specs.Changes.{keep_files, keep_extents}
 use Rattle.volume_tables.specs.Tables.{tables_now}
-use Rattle.volume_files.specs.Names.{is_other}
 use Rattle.volume_files.specs.Stages.{Stages}
 use Rattle.volume_files.proofs.Counted.{dropped_known}
 use Rattle.volume_files.proofs.GoneFile.{file_range, block_range, quiet_stages}

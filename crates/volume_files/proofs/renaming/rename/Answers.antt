@@ -1,4 +1,4 @@
-use Rattle.std.proofs.Common.{◌≡◌, ◌+◌, ℕ, length, Err, Result, inl, sym, ap, subst, rules}
+use Rattle.std.proofs.Common.{◌≡◌, ◌+◌, ◌∙◌, ℕ, length, Err, Result, inl, sym, ap, subst, rules}
 use Rattle.plain_volume.specs.Replies.{done_reply}
 use Rattle.plain_volume.specs.Step.{Outcome, plain}
 use Rattle.plain_volume.specs.Volume.{Volume, with_file, without_file}
@@ -14,6 +14,13 @@ use Rattle.volume_files.proofs.OneName.{short_names}
 use Rattle.volume_files.proofs.OtherName.{answered_renamed, view_put, view_unput, sound_put}
 use Rattle.volume_files.proofs.Wanted.{replied_want}
 use Rattle.volume_files.proofs.Spent.{spends_none, spends_renamed}
+use Rattle.std.proofs.lemmas.Result.{on_ok_weaker, on_err_weaker}
+use Rattle.std.specs.FinMap.{find}
+use Rattle.byte_map.specs.Words.{bytes_cmp}
+use Rattle.volume_inside.specs.Typed.{Typed}
+use Rattle.volume_files.specs.Insides.{inside_renamed}
+use Rattle.volume_files.specs.Names.{with_renamed}
+use Rattle.volume_files.proofs.Insides.{inside_left, inside_unleft, inside_other}
 use Rattle.volume_files.proofs.renaming.rename.Goals as goal
 
 pub returns-in_err-make_room-clause-reply : goal.returns-in_err-make_room-clause-reply
@@ -87,3 +94,25 @@ pub returns-clause-spends : goal.returns-clause-spends
 returns-clause-spends g c =
     spends_renamed c.args.tables.now c.make_room.new.tables c.put_name.new.tables c.make_room.ensures.now
     c.args.from.now c.args.to.now c.in_ok-id.id c.put_name.result c.put_name.ensures.ok c.put_name.ensures.err
+
+pub returns-clause-inside : goal.returns-clause-inside
+returns-clause-inside g c =
+    let t = c.args.tables.now in
+    let m = c.make_room.new.tables in
+    let p = c.put_name.new.tables in
+    let from = c.args.from.now in
+    let to = c.args.to.now in
+    let id = c.in_ok-id.id in
+    let put = c.put_name.ensures in
+    let named = ap (λ (q : Typed). find bytes_cmp from q.names) c.make_room.ensures.now
+    ∙ c.in_ok-id.ensures.found.named in
+    on_ok_weaker c.put_name.result
+    (inside_left t m p c.make_room.ensures.inside put.stages.image (inside_renamed from to)
+    (with_renamed from to id (tables_now m)) (inside_other (tables_now m) (disk_of m).image from to id named)) put.ok
+
+pub returns-clause-err_inside : goal.returns-clause-err_inside
+returns-clause-err_inside g c =
+    let put = c.put_name.ensures in
+    on_err_weaker c.put_name.result
+    (inside_unleft c.args.tables.now c.make_room.new.tables c.put_name.new.tables c.make_room.ensures.inside
+    put.stages.image) put.err

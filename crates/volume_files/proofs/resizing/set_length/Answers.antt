@@ -5,6 +5,16 @@ use Rattle.volume_files.specs.Needs.{length_needs}
 use Rattle.volume_files.proofs.Endured.{endures_leaves}
 use Rattle.volume_files.proofs.Resized.{small_id, sound_resized, view_left}
 use Rattle.volume_files.proofs.Spent.{spends_none, spends_resized}
+use Rattle.std.proofs.Common.{ap, ◌∙◌}
+use Rattle.std.specs.FinMap.{find}
+use Rattle.std.specs.Ordering.{nat_cmp}
+use Rattle.byte_map.specs.Words.{bytes_cmp}
+use Rattle.volume_inside.specs.Typed.{Typed}
+use Rattle.volume_tables.specs.Tables.{disk_of}
+use Rattle.volume_files.specs.Insides.{inside_resized}
+use Rattle.volume_files.specs.Lengths.{resized_in}
+use Rattle.volume_files.proofs.Insides.{inside_left, inside_cut}
+use Rattle.volume_files.proofs.Setting.{sorted_now}
 use Rattle.volume_files.proofs.resizing.set_length.Goals as goal
 
 pub resize-requires-clause-id : goal.resize-requires-clause-id
@@ -48,3 +58,18 @@ pub returns-clause-spends : goal.returns-clause-spends
 returns-clause-spends g c =
     spends_resized c.args.tables.now c.make_room.new.tables c.resize.new.tables c.make_room.ensures.now
     c.in_ok-id.id c.args.length c.in_ok-id.file c.resize.ensures.tables
+
+pub returns-clause-inside : goal.returns-clause-inside
+returns-clause-inside g c =
+    let t = c.args.tables.now in
+    let m = c.make_room.new.tables in
+    let name = c.args.name.now in
+    let len = c.args.length in
+    let id = c.in_ok-id.id in
+    let file = c.in_ok-id.file in
+    let is = c.in_ok-id.ensures.found in
+    let named = ap (λ (q : Typed). find bytes_cmp name q.names) c.make_room.ensures.now ∙ is.named in
+    let there = ap (λ (q : Typed). find nat_cmp id q.files) c.make_room.ensures.now ∙ is.there in
+    inside_left t m c.resize.new.tables c.make_room.ensures.inside c.resize.ensures.stages.image
+    (λ i. inside_resized name len i) (resized_in id file len (tables_now m))
+    (inside_cut id len (tables_now m) (disk_of m).image (sorted_now m) name file named there) c.resize.ensures.tables

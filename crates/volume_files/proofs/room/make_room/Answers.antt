@@ -34,6 +34,7 @@ returns-then-stored_next_id-eq-LAST_ID g c =
       endures = endures_start g.met.D.Disk.same_self t;
       runs = tt;
       stops = λ is. absurd (differ is c.requires.running);
+      halts = λ failed. absurd (cc);
     }
 
 pub returns-then-grows-half : goal.returns-then-grows-half
@@ -69,6 +70,7 @@ returns-then-grows-half g c =
       endures = endures_start g.met.D.Disk.same_self t;
       runs = tt;
       stops = λ is. absurd (differ is c.requires.running);
+      halts = λ failed. absurd (cc);
     }
 
 pub returns : goal.returns
@@ -105,4 +107,5 @@ returns g c =
       endures = endures_room t u s.clusters s.moments s.goes_on s.later s.same s.epoch s.tires;
       runs = s.runs;
       stops = s.stops;
+      halts = λ failed. (s.failed failed).1;
     }

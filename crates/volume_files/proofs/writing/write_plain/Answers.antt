@@ -10,6 +10,7 @@ use Rattle.volume_files.specs.Writing.{write_wants}
 use Rattle.volume_files.proofs.Endured.{endures_leaves}
 use Rattle.volume_files.proofs.WriteReplies.{done, file_is_whole, reply_there, wants_some, still_kept}
 use Rattle.volume_files.proofs.Spent.{spends_none, spends_written}
+use Rattle.volume_files.specs.Insides.{id_written}
 use Rattle.volume_files.proofs.writing.write_plain.Goals as goal
 
 pub returns-clause-reply : goal.returns-clause-reply
@@ -53,3 +54,13 @@ returns-clause-spends g c =
     let some : 0 < length bytes = search rules in
     spends_written c.args.tables.now c.make_room_for_write.new.tables c.write_with_room.new.tables
     c.make_room_for_write.ensures.now c.args.at bytes some c.write_with_room.ensures.spends
+
+pub returns-clause-inside : goal.returns-clause-inside
+returns-clause-inside g c w kept =
+    let t = c.args.tables.now in
+    let b = c.make_room_for_write.new.tables in
+    let still = still_kept t b w c.make_room_for_write.ensures.endures c.in_ok-make_room_for_write.ensures.runs kept in
+    on_ok_weaker c.write_with_room.result
+    (λ written. written ∙ ap (λ (i : Inside). id_written c.args.file c.args.at c.args.bytes.now i)
+    c.make_room_for_write.ensures.inside)
+    (c.write_with_room.ensures.inside still.0 still.1)

@@ -15,6 +15,7 @@ use Rattle.volume_files.specs.Writing.{blocks_up_to}
 use Rattle.volume_files.proofs.Setting.{held_now, on_ok_there}
 use Rattle.volume_files.proofs.Written.{rules_grown, grown_short, cells_written, others_written}
 use Rattle.volume_files.proofs.Spent.{spends_none, spends_then, spends_record}
+use Rattle.volume_files.proofs.Insides.{file_then}
 use Rattle.volume_files.proofs.writing.write_with_room.Goals as goal
 
 pub write_blocks-requires-clause-rules : goal.write_blocks-requires-clause-rules
@@ -59,7 +60,7 @@ returns-clause-cells g c stored is =
     let set = on_ok_there c.set_file.result (c.set_file.ensures.set.in_place there) c.set_file.ensures.ok in
     cells_written t b s c.args.file c.args.at grown set c.set_file.ensures.set.image t.clusters was bytes
     c.requires.sound.rules found
-    (λ i. record was { length = c.max.ensures i }) c.requires.some (c.in_ok-write_blocks.ensures.cells stored is)
+    (λ i. record was { length = c.max.ensures i }) c.requires.some (c.in_ok-write_blocks.ensures.cells stored is (λ k low. absurd (omega (arith, low))))
 
 pub returns-clause-others : goal.returns-clause-others
 returns-clause-others g c =
@@ -99,3 +100,17 @@ returns-clause-spends g c =
     let some = c.requires.some in
     spends_then (blocks_up_to to (c.args.at / 4096)) 0 (touched c.args.at (length c.args.bytes.now)) t b s
     c.write_blocks.ensures.spends (spends_record b s c.args.file grown set) (omega (arith, some))
+
+pub returns-clause-inside : goal.returns-clause-inside
+returns-clause-inside g c stored is =
+    let t = c.args.tables.now in
+    let b = c.write_blocks.new.tables in
+    let s = c.set_file.new.self in
+    let was = c.unwrap-grown.result in
+    let grown : FileRecord = record was { length = c.max.result } in
+    let found = sym c.get_file.ensures ∙ c.unwrap-grown.ensures in
+    let there = subst (λ (o : Option FileRecord). IsSome o) (sym
+    (ap (λ (q : Typed). find nat_cmp c.args.file q.files) c.in_ok-write_blocks.ensures.ok.rest)) c.requires.there in
+    let set = on_ok_there c.set_file.result (c.set_file.ensures.set.in_place there) c.set_file.ensures.ok in
+    file_then t b s c.args.file c.args.at grown was c.args.bytes.now set c.set_file.ensures.set.image found
+    (λ i. record was { length = c.max.ensures i }) c.requires.some (c.in_ok-write_blocks.ensures.inside stored is (λ k low. absurd (omega (arith, low))))

@@ -1,6 +1,7 @@
-use Rattle.std.proofs.Common.{[], ap, subst, sym, ◌∙◌, length, inr, refl, arith}
+use Rattle.std.proofs.Common.{◌+◌, ◌≤◌, [], ap, subst, sym, ◌∙◌, length, inr, refl, arith}
 use Rattle.byte_map.specs.Words.{Map}
-use Rattle.meta_log.specs.Log.{IsLog, state_of, now_of, needs_checkpoint}
+use Rattle.meta_log.specs.Log.{IsLog, state_of, now_of, staged_of, needs_checkpoint}
+use Rattle.meta_log.proofs.Spends.{none_taken}
 use Rattle.vdisk.specs.Steps.{Keeps}
 use Rattle.volume_tables.specs.Formats.{SpellsNoFile}
 use Rattle.volume_tables.proofs.Committed.{committed}
@@ -71,6 +72,7 @@ returns-in-Err-commit g c =
       half = tt;
       staged = tt;
       epoch = tt;
+      first = tt;
       runs = tt;
       refused = inr refl;
       same = tt;
@@ -86,3 +88,12 @@ returns-in-Ok-commit-clause-epoch g c =
       c.stage_first.ensures.quiet.place.epoch,
       one_or_none (needs_checkpoint c.stage_first.new.log),
     )
+
+pub returns-in-Ok-commit-clause-first : goal.returns-in-Ok-commit-clause-first
+returns-in-Ok-commit-clause-first g c =
+    let s = c.stage_first.new.log in
+    let place = c.stage_first.ensures.quiet.place in
+    let fits : s.place + (37 + staged_of s) ≤ s.half = omega
+    (arith, place.next, place.half, c.requires.begun, c.requires.wide, s.few) in
+    let none = none_taken s.half s.place (staged_of s) fits in
+    omega (arith, c.in-Ok-commit.ensures.epoch, place.epoch, none)

@@ -5,6 +5,8 @@ use Rattle.meta_log.specs.Log.{IsLog}
 use Rattle.meta_log.specs.declared.log.MetaLog.{MetaLog}
 use Rattle.volume_inside.specs.Fresh.{fresh_map}
 use Rattle.volume_tables.specs.Formats.{IsCommitted, IsMakeImage}
+use Rattle.volume_inside.specs.Fresh.{fresh_tables}
+use Rattle.volume_tables.proofs.Told.{told_by_image}
 use Rattle.volume_tables.proofs.Committed.{formatted_tables, formatted_kept}
 use Rattle.volume_tables.proofs.Formatted.{make_start, make_records}
 use Rattle.volume_tables.proofs.formatting.make.Goals as goal
@@ -64,3 +66,10 @@ pub returns-in-Err-commit_first-clause-same_err : goal.returns-in-Err-commit_fir
 returns-in-Err-commit_first-clause-same_err g c =
     g.met.D.Disk.same_next c.args.disk c.in-Ok-make_log.log.disk c.in-Err-commit_first.fault.0
     c.in-Ok-make_log.ensures.same c.in-Err-commit_first.ensures.same_err
+
+pub returns-in-Ok-commit_first-clause-goes_on : goal.returns-in-Ok-commit_first-clause-goes_on
+returns-in-Ok-commit_first-clause-goes_on g c told =
+    let log = c.in-Ok-commit_first.ensures.log (c.in-Ok-make_log.ensures.log told) in
+    told_by_image c.assemble.result fresh_tables
+    (formatted_tables c.assemble.result c.args.clusters c.assemble.ensures.clusters
+    (subst (λ (l : MetaLog g.row.D.Denot g.D.Disk). IsLog l fresh_map) (sym c.assemble.ensures.log) log))

@@ -1,4 +1,4 @@
-use Rattle.std.proofs.Common.{◌≡◌, Ok, Err, refl}
+use Rattle.std.proofs.Common.{Ok, Err, refl}
 use Rattle.ddpsh.proofs.CallLaws.{Flushed}
 use Rattle.ddpsh.proofs.LineOfLaws.{end_ok, end_refused_as}
 use Rattle.ddpsh.proofs.session.Session.end.Goals as goal
@@ -9,6 +9,8 @@ returns-in-Ok-clause-told g c w kept =
       replied = c.in-Ok.ensures.reply;
       left = c.in-Ok.ensures.left;
       durable = c.in-Ok.ensures.durable w kept;
+      stored = c.in-Ok.ensures.stored w kept;
+      moves = c.in-Ok.ensures.moves;
       endures = c.flush.ensures.endures;
       adds = c.flush.ensures.adds;
     } in
@@ -20,6 +22,8 @@ returns-in-Err-clause-told g c w kept =
       replied = c.in-Err.ensures.reply;
       left = c.in-Err.ensures.left;
       durable = tt;
+      stored = tt;
+      moves = c.in-Err.ensures.moves;
       endures = c.flush.ensures.endures;
       adds = c.flush.ensures.adds;
     } in

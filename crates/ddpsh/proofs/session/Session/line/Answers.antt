@@ -1,6 +1,9 @@
-use Rattle.std.proofs.Common.{◌≡◌, ◌∙◌, ap, Ok, Err, refl}
+use Rattle.std.proofs.Common.{◌∙◌, ap, Err, true, false}
 use Rattle.cmdlet_line.specs.Lines.{line_of}
-use Rattle.ddpsh.proofs.LineOfLaws.{stop_as, done_as, cut_as, read_as}
+use Rattle.ddpsh.proofs.LineOfLaws.{stop_as, done_as, cut_as}
+use Rattle.ddpsh.proofs.ClockLaws.{clock_as, clock_then, acked_second, gone_second, gone_over, stays_open, test_as, or_left}
+use Rattle.volume_core.specs.Volumes.{stopped}
+use Rattle.ddpsh.specs.Answers.{makes_none, may_stop}
 use Rattle.ddpsh.proofs.session.Session.line.Goals as goal
 
 pub returns-in-Err-clause-told : goal.returns-in-Err-clause-told
@@ -20,11 +23,45 @@ returns-clause-told g c w kept =
     c.in-Ok.answered c.parse-asked.ensures (c.in-Ok.ensures.told w kept) c.attempt.ensures.rest.ack c.let_go.ensures
     (rw c.deref.ensures.value at c.in-Err-put_all.ensures.err)
 
+pub returns-in-Err-clause-idle : goal.returns-in-Err-clause-idle
+returns-in-Err-clause-idle g c none =
+    stop_as c.parse-asked.result (line_of c.args.self.now.text c.args.line.now) c.args.payload.now c.args.self.now c.attempt.new.self _ c.attempt.new.text.items c.in-Err.fault
+    c.parse-asked.ensures (λ h. c.attempt.ensures.no_sink (c.in-Err.is ∙ ap Err h)) (c.in-Err.ensures.idle (test_as makes_none true c.parse-asked.result (line_of c.args.self.now.text c.args.line.now) c.args.payload.now c.parse-asked.ensures none)) c.attempt.ensures.rest.ack
+
+pub returns-in-Ok-put_all-clause-idle : goal.returns-in-Ok-put_all-clause-idle
+returns-in-Ok-put_all-clause-idle g c none =
+    done_as c.parse-asked.result (line_of c.args.self.now.text c.args.line.now) c.args.payload.now c.args.self.now c.attempt.new.self c.let_go.new.self c.acknowledge.new.self _ _ c.attempt.new.text.items
+    c.in-Ok.answered c.is_flushed.result c.parse-asked.ensures (c.in-Ok.ensures.idle (test_as makes_none true c.parse-asked.result (line_of c.args.self.now.text c.args.line.now) c.args.payload.now c.parse-asked.ensures none)) c.attempt.ensures.rest.ack c.let_go.ensures c.is_flushed.ensures c.acknowledge.ensures
+    (rw c.deref.ensures.value at c.in-Ok-put_all.ensures.ok)
+
+pub returns-clause-idle : goal.returns-clause-idle
+returns-clause-idle g c none =
+    cut_as c.parse-asked.result (line_of c.args.self.now.text c.args.line.now) c.args.payload.now c.args.self.now c.attempt.new.self c.let_go.new.self _ _ c.attempt.new.text.items
+    c.in-Ok.answered c.parse-asked.ensures (c.in-Ok.ensures.idle (test_as makes_none true c.parse-asked.result (line_of c.args.self.now.text c.args.line.now) c.args.payload.now c.parse-asked.ensures none)) c.attempt.ensures.rest.ack c.let_go.ensures
+    (rw c.deref.ensures.value at c.in-Err-put_all.ensures.err)
+
 pub returns-in-Err-clause-read : goal.returns-in-Err-clause-read
-returns-in-Err-clause-read g c = read_as c.parse-asked.result (line_of c.args.self.now.text c.args.line.now) _ _ c.parse-asked.ensures c.attempt.ensures.read
+returns-in-Err-clause-read g c = clock_as c.parse-asked.result (line_of c.args.self.now.text c.args.line.now) _ _ _ _ _ c.parse-asked.ensures c.in-Err.ensures.read
 
 pub returns-in-Ok-put_all-clause-read : goal.returns-in-Ok-put_all-clause-read
-returns-in-Ok-put_all-clause-read g c = read_as c.parse-asked.result (line_of c.args.self.now.text c.args.line.now) _ _ c.parse-asked.ensures c.attempt.ensures.read
+returns-in-Ok-put_all-clause-read g c =
+    clock_then c.parse-asked.result (line_of c.args.self.now.text c.args.line.now) _ _ _ _ _ c.in-Ok.answered _ c.parse-asked.ensures
+    (acked_second c.in-Ok.answered c.is_flushed.result c.attempt.new.self c.let_go.new.self c.acknowledge.new.self c.let_go.ensures c.acknowledge.ensures) c.in-Ok.ensures.read
 
 pub returns-clause-read : goal.returns-clause-read
-returns-clause-read g c = read_as c.parse-asked.result (line_of c.args.self.now.text c.args.line.now) _ _ c.parse-asked.ensures c.attempt.ensures.read
+returns-clause-read g c =
+    clock_then c.parse-asked.result (line_of c.args.self.now.text c.args.line.now) _ _ _ _ _ c.in-Ok.answered _ c.parse-asked.ensures
+    (gone_second c.in-Ok.answered c.attempt.new.self c.let_go.new.self c.let_go.ensures) c.in-Ok.ensures.read
+
+pub returns-in-Err-clause-let_go : goal.returns-in-Err-clause-let_go
+returns-in-Err-clause-let_go g c sink = absurd (c.attempt.ensures.no_sink (c.in-Err.is ∙ sink))
+
+pub returns-clause-let_go : goal.returns-clause-let_go
+returns-clause-let_go g c sink =
+    gone_over c.in-Ok.answered c.attempt.new.self c.let_go.new.self c.let_go.ensures
+    (c.attempt.ensures.rest.over ∙ or_left c.args.self.now.over (stopped c.args.self.now.volume) c.requires) c.attempt.ensures.rest.ack c.in-Ok.ensures.runs
+
+pub returns-in-Err-clause-stays : goal.returns-in-Err-clause-stays
+returns-in-Err-clause-stays g c never device =
+    stays_open c.attempt.new.self (c.attempt.ensures.rest.over ∙ or_left c.args.self.now.over (stopped c.args.self.now.volume) c.requires)
+    (c.attempt.ensures.stays (test_as may_stop false c.parse-asked.result (line_of c.args.self.now.text c.args.line.now) c.args.payload.now c.parse-asked.ensures never))

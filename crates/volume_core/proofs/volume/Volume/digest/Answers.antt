@@ -7,6 +7,7 @@ use Rattle.volume_core.proofs.Answered.{digest_replied}
 use Rattle.volume_core.proofs.Causes.{refused_not_failed}
 use Rattle.volume_core.proofs.Read.{read_endures}
 use Rattle.volume_core.proofs.Adding.{nothing_adds, reads_add}
+use Rattle.volume_core.proofs.Moving.{reads_move, stays_move}
 use Rattle.volume_core.proofs.volume.Volume.digest.Goals as goal
 
 pub returns-in_err-file-clause-failed : goal.returns-in_err-file-clause-failed
@@ -37,3 +38,11 @@ returns-clause-adds g c = reads_add _ _ (Digest c.args.name.now) c.hash_file.ens
 
 pub returns-in_err-file-clause-endures : goal.returns-in_err-file-clause-endures
 returns-in_err-file-clause-endures g c = endures_start g.met.D.Disk.same_self c.args.self.now.tables
+
+pub returns-clause-moves : goal.returns-clause-moves
+returns-clause-moves g c =
+    reads_move c.args.self.now.tables c.hash_file.new.tables (Digest c.args.name.now) _ refl c.hash_file.ensures.reads
+
+pub returns-in_err-file-clause-moves : goal.returns-in_err-file-clause-moves
+returns-in_err-file-clause-moves g c =
+    stays_move c.args.self.now.tables (Digest c.args.name.now) _ refl

@@ -1,16 +1,23 @@
-use Rattle.std.proofs.Common.{◌≡◌, ◌+◌, List, inl, inr, ap, refl, sym, subst}
+use Rattle.std.proofs.Common.{◌≡◌, ◌+◌, ◌∙◌, List, inl, inr, ap, refl, sym, subst}
 use Rattle.std.proofs.lemmas.Result.{on_ok_weaker}
 use Rattle.cluster_space.specs.declared.state.State.{State}
 use Rattle.cluster_space.specs.States.{free_in, deferred_in}
-use Rattle.volume_inside.specs.Shows.{Kept}
+use Rattle.volume_inside.specs.Shows.{Area, Kept}
 use Rattle.volume_inside.specs.View.{view}
-use Rattle.volume_tables.specs.Tables.{states_of, disk_of, view_now, area_of, would_wear, GoesOn}
+use Rattle.volume_tables.specs.Tables.{tables_now, inside_now, states_of, stopped, disk_of, view_now, area_of}
+use Rattle.volume_tables.specs.Tables.{would_wear, GoesOn}
 use Rattle.volume_tables.proofs.Freed.{both_ok}
 use Rattle.volume_tables.proofs.Roomed.{unless_stopped, released_counts}
 use Rattle.volume_files.proofs.Endured.{endures_room}
-use Rattle.volume_core.proofs.Flushed.{flush_leaves, flush_reply, flush_want, kept_now, sound_still}
+use Rattle.volume_core.proofs.Flushed.{flush_leaves, flush_reply, flush_stops, flush_want, kept_now, sound_still}
 use Rattle.plain_volume.specs.declared.call.Call.TheVariants.{Flush}
+use Rattle.volume_tables.proofs.Leaving.{area_same}
+use Rattle.plain_volume.specs.Replies.{done_reply}
 use Rattle.volume_core.proofs.Adding.{commit_adds}
+use Rattle.volume_core.proofs.Moving.{moves, after_none}
+use Rattle.volume_core.proofs.Counted.{none_deferred}
+use Rattle.volume_core.proofs.Settled.{ok_all, settled}
+use Rattle.volume_core.proofs.Stored.{stored_state}
 use Rattle.volume_core.proofs.volume.Volume.flush.Goals as goal
 
 pub invariant_of-self : goal.invariant_of-self
@@ -68,3 +75,30 @@ returns-clause-left g c =
 
 pub returns-clause-want : goal.returns-clause-want
 returns-clause-want g c = flush_want (would_wear c.args.self.now.tables)
+
+pub returns-clause-moves : goal.returns-clause-moves
+returns-clause-moves g c =
+    let t = c.args.self.now.tables in
+    let s = c.commit.ensures in
+    moves t c.commit.new.self Flush (done_reply c.commit.result)
+    (s.inside ∙ sym (after_none Flush (done_reply c.commit.result) (inside_now t) refl)) s.clusters
+    (λ is. ap done_reply (flush_stops (stopped c.commit.new.self) c.commit.result s.runs s.refused s.still_runs is))
+    s.epoch
+
+pub returns-clause-halts : goal.returns-clause-halts
+returns-clause-halts g c failed = (c.commit.ensures.failed failed).1
+
+pub returns-clause-stored : goal.returns-clause-stored
+returns-clause-stored g c w kept =
+    let t = c.args.self.now.tables in
+    let u = c.commit.new.self in
+    let s = c.commit.ensures in
+    ok_all c.commit.result _ _ _ _ _ _ _
+    (λ is shows freed fresh due runs. stored_state u (tables_now t) (view_now t) is s.now
+    (subst (λ (a : Area). Kept a (disk_of u) (view_now t)) (sym (area_same t u s.clusters)) shows)
+    (settled u
+    (sound_still t u c.args.self.now.sound s.clusters s.now
+    (λ still. released_counts (states_of t) (states_of u) freed) (λ still. c.requires.running))
+    runs fresh due (ap (λ (xs : List State). deferred_in xs) freed ∙ none_deferred (states_of t))))
+    (s.tables kept.stored kept.tables) (s.kept kept.stored w kept.tables kept.kept) s.freed s.fresh s.nothing_due
+    s.runs

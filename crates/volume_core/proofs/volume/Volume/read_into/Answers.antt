@@ -7,6 +7,7 @@ use Rattle.volume_core.proofs.Answered.{read_replied}
 use Rattle.volume_core.proofs.Causes.{refused_not_failed}
 use Rattle.volume_core.proofs.Read.{read_endures}
 use Rattle.volume_core.proofs.Adding.{nothing_adds, reads_add}
+use Rattle.volume_core.proofs.Moving.{reads_move, stays_move}
 use Rattle.volume_core.proofs.volume.Volume.read_into.Goals as goal
 
 pub returns-in_err-file-clause-failed : goal.returns-in_err-file-clause-failed
@@ -45,3 +46,18 @@ returns-clause-adds g c =
 
 pub returns-in_err-file-clause-endures : goal.returns-in_err-file-clause-endures
 returns-in_err-file-clause-endures g c = endures_start g.met.D.Disk.same_self c.args.self.now.tables
+
+pub returns-clause-moves : goal.returns-clause-moves
+returns-clause-moves g c =
+    reads_move c.args.self.now.tables c.read_plain.new.tables
+    (Read c.args.name.now c.args.at (length c.args.out.now)) _ refl c.read_plain.ensures.reads
+
+pub returns-in_err-file-clause-moves : goal.returns-in_err-file-clause-moves
+returns-in_err-file-clause-moves g c =
+    let call = Read c.args.name.now c.args.at (length c.args.out.now) in
+    stays_move c.args.self.now.tables call _ refl
+
+pub returns-then-at-record-clause-moves : goal.returns-then-at-record-clause-moves
+returns-then-at-record-clause-moves g c =
+    let call = Read c.args.name.now c.args.at (length c.args.out.now) in
+    stays_move c.args.self.now.tables call _ refl

@@ -1,4 +1,5 @@
 use Rattle.std.proofs.Common.{refl, arith}
+use Rattle.plain_volume.specs.Replies.{done_reply}
 use Rattle.plain_volume.specs.declared.call.Call.TheVariants.{Rename}
 use Rattle.volume_tables.specs.Tables.{disk_of, view_now}
 use Rattle.volume_files.specs.Needs.{rename_needs}
@@ -6,10 +7,14 @@ use Rattle.volume_files.specs.Wants.{wanting}
 use Rattle.volume_core.proofs.Causes.{failed_rose_too}
 use Rattle.volume_core.proofs.Wanting.{rename_may, rename_not_failed}
 use Rattle.volume_core.proofs.Adding.{changes_add}
+use Rattle.volume_core.proofs.Moving.{changes_move}
+use Rattle.volume_core.proofs.Told.{want_told, replied_told_too}
 use Rattle.volume_core.proofs.volume.Volume.rename.Goals as goal
 
 pub returns-clause-want : goal.returns-clause-want
-returns-clause-want g c = rename_may c.args.self.now.tables c.args.from.now c.args.to.now
+returns-clause-want g c =
+    want_told c.args.self.now (Rename c.args.from.now c.args.to.now)
+    (rename_may c.args.self.now.tables c.args.from.now c.args.to.now)
 
 pub returns-clause-failed : goal.returns-clause-failed
 returns-clause-failed g c =
@@ -22,3 +27,14 @@ pub returns-clause-adds : goal.returns-clause-adds
 returns-clause-adds g c =
     let s = c.rename.ensures in
     changes_add _ _ (Rename c.args.from.now c.args.to.now) 0 (omega arith) refl s.spends s.endures
+
+pub returns-clause-reply : goal.returns-clause-reply
+returns-clause-reply g c =
+    replied_told_too c.args.self.now (Rename c.args.from.now c.args.to.now) (disk_of c.args.self.now.tables).faults
+    (disk_of c.rename.new.tables).faults (done_reply c.rename.result) c.rename.ensures.reply
+
+pub returns-clause-moves : goal.returns-clause-moves
+returns-clause-moves g c =
+    let s = c.rename.ensures in
+    changes_move c.args.self.now.tables c.rename.new.tables (Rename c.args.from.now c.args.to.now)
+    c.rename.result refl s.inside s.err_inside s.endures s.stops

@@ -1,14 +1,19 @@
 use Rattle.std.proofs.Common.{refl, arith}
+use Rattle.plain_volume.specs.Replies.{done_reply}
 use Rattle.plain_volume.specs.declared.call.Call.TheVariants.{SetLength}
 use Rattle.volume_tables.specs.Tables.{disk_of, view_now}
 use Rattle.volume_files.specs.Lengths.{length_wants}
 use Rattle.volume_core.proofs.Causes.{failed_rose}
 use Rattle.volume_core.proofs.Wanting.{length_may, length_not_failed}
 use Rattle.volume_core.proofs.Adding.{changes_add}
+use Rattle.volume_core.proofs.Moving.{changes_move}
+use Rattle.volume_core.proofs.Told.{want_told, replied_told}
 use Rattle.volume_core.proofs.volume.Volume.set_length.Goals as goal
 
 pub returns-clause-want : goal.returns-clause-want
-returns-clause-want g c = length_may c.args.self.now.tables c.args.name.now c.args.length
+returns-clause-want g c =
+    want_told c.args.self.now (SetLength c.args.name.now c.args.length)
+    (length_may c.args.self.now.tables c.args.name.now c.args.length)
 
 pub returns-clause-failed : goal.returns-clause-failed
 returns-clause-failed g c =
@@ -21,3 +26,14 @@ pub returns-clause-adds : goal.returns-clause-adds
 returns-clause-adds g c =
     let s = c.set_length.ensures in
     changes_add _ _ (SetLength c.args.name.now c.args.length) 0 (omega arith) refl s.spends s.endures
+
+pub returns-clause-reply : goal.returns-clause-reply
+returns-clause-reply g c =
+    replied_told c.args.self.now (SetLength c.args.name.now c.args.length) (disk_of c.args.self.now.tables).faults
+    (disk_of c.set_length.new.tables).faults (done_reply c.set_length.result) c.set_length.ensures.reply
+
+pub returns-clause-moves : goal.returns-clause-moves
+returns-clause-moves g c =
+    let s = c.set_length.ensures in
+    changes_move c.args.self.now.tables c.set_length.new.tables (SetLength c.args.name.now c.args.length)
+    c.set_length.result refl s.inside s.err_inside s.endures s.stops

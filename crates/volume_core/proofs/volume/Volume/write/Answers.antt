@@ -1,18 +1,20 @@
-use Rattle.std.proofs.Common.{rules, ◌≡◌, Result, Err, refl, sym, subst, arith}
+use Rattle.std.proofs.Common.{rules, ◌≡◌, ◌∙◌, length, Result, Err, refl, sym, ap, subst, arith, inl, inr, ⊎_elim}
+use Rattle.std.proofs.lemmas.Result.{on_ok_weaker}
 use Rattle.plain_volume.specs.Step.{plain, write}
 use Rattle.plain_volume.specs.Replies.{done_reply}
 use Rattle.plain_volume.specs.declared.call.Call.TheVariants.{Write}
 use Rattle.plain_volume.specs.declared.call.Fault.{Fault}
-use Rattle.volume_tables.specs.Tables.{disk_of, view_now}
-use Rattle.volume_files.specs.Lengths.{for_file}
+use Rattle.volume_tables.specs.Tables.{disk_of, inside_now, view_now}
 use Rattle.volume_files.specs.Wants.{IsRepliedOrMemory}
-use Rattle.volume_files.specs.Writing.{write_wants}
 use Rattle.volume_files.proofs.Endured.{endures_start}
-use Rattle.volume_core.specs.Wants.{file_of}
+use Rattle.volume_core.specs.Wants.{wants_of}
+use Rattle.volume_core.proofs.Told.{want_told, replied_told_too, reads_told}
+use Rattle.volume_core.specs.Moves.{inside_after}
 use Rattle.volume_core.proofs.Causes.{refused_not_failed}
 use Rattle.volume_core.proofs.Wanting.{write_may}
 use Rattle.volume_core.proofs.Written.{unfound_replied, write_replied, write_left}
 use Rattle.volume_core.proofs.Adding.{nothing_adds, changes_add}
+use Rattle.volume_core.proofs.Moving.{changes_move, still_moves, written_of}
 use Rattle.volume_core.proofs.volume.Volume.write.Goals as goal
 
 pub returns-in_err-file-clause-failed : goal.returns-in_err-file-clause-failed
@@ -30,19 +32,21 @@ returns-in_err-file-clause-reply g c =
     let refused : c.from_residual.result ≡ Err c.in_err-file.field-0.0 = search rules in
     subst (λ (r : Result (Unit {0}) Fault). IsRepliedOrMemory
     (plain (view_now t) (Write name c.args.at c.args.bytes.now))
-    (for_file (file_of t name) (λ file. write_wants t file c.args.at c.args.bytes.now))
+    (wants_of c.args.self.now (Write name c.args.at c.args.bytes.now))
     (disk_of t).faults (disk_of t).faults (done_reply r)) (sym refused)
     (unfound_replied (view_now t) name c.args.at c.args.bytes.now c.in_err-file.field-0.0
-    (for_file (file_of t name) (λ file. write_wants t file c.args.at c.args.bytes.now))
+    (wants_of c.args.self.now (Write name c.args.at c.args.bytes.now))
     (disk_of t).faults (disk_of t).faults c.in_err-file.ensures.refused)
 
 pub returns-clause-reply : goal.returns-clause-reply
 returns-clause-reply g c =
     let t = c.args.self.now.tables in
     let u = c.write_plain.new.tables in
-    write_replied t u c.args.self.now.sound c.args.name.now c.in_ok-file.file c.in_ok-file._record
+    replied_told_too c.args.self.now (Write c.args.name.now c.args.at c.args.bytes.now) (disk_of t).faults
+    (disk_of u).faults (done_reply c.write_plain.result)
+    (write_replied t u c.args.self.now.sound c.args.name.now c.in_ok-file.file c.in_ok-file._record
     c.in_ok-file.ensures.found c.args.at c.args.bytes.now (disk_of t).faults (disk_of u).faults
-    (done_reply c.write_plain.result) (c.write_plain.ensures.reply c.args.name.now (view_now t))
+    (done_reply c.write_plain.result) (c.write_plain.ensures.reply c.args.name.now (view_now t)))
 
 pub returns-clause-left : goal.returns-clause-left
 returns-clause-left g c w kept =
@@ -54,7 +58,9 @@ returns-clause-left g c w kept =
     (s.reply c.args.name.now (view_now t)) s.written s.others (s.cells w kept) s.err_inside
 
 pub returns-clause-want : goal.returns-clause-want
-returns-clause-want g c = write_may c.args.self.now.tables c.args.name.now c.args.at c.args.bytes.now
+returns-clause-want g c =
+    want_told c.args.self.now (Write c.args.name.now c.args.at c.args.bytes.now)
+    (write_may c.args.self.now.tables c.args.name.now c.args.at c.args.bytes.now)
 
 pub returns-in_err-file-clause-adds : goal.returns-in_err-file-clause-adds
 returns-in_err-file-clause-adds g c = nothing_adds _ _ (Write c.args.name.now c.args.at c.args.bytes.now) refl
@@ -66,3 +72,36 @@ returns-clause-adds g c =
 
 pub returns-in_err-file-clause-endures : goal.returns-in_err-file-clause-endures
 returns-in_err-file-clause-endures g c = endures_start g.met.D.Disk.same_self c.args.self.now.tables
+
+pub returns-clause-moves : goal.returns-clause-moves
+returns-clause-moves g c w kept =
+    let t = c.args.self.now.tables in
+    let s = c.write_plain.ensures in
+    let found = c.in_ok-file.ensures.found in
+    changes_move c.args.self.now.tables c.write_plain.new.tables (Write c.args.name.now c.args.at c.args.bytes.now)
+    c.write_plain.result refl
+    (on_ok_weaker c.write_plain.result (λ is. is ∙ written_of c.args.name.now c.in_ok-file.file c.args.at
+    c.args.bytes.now (inside_now t) found.named) (s.inside w kept)) s.err_inside s.endures s.stops
+
+pub returns-clause-halts : goal.returns-clause-halts
+returns-clause-halts g c failed =
+    let found = c.in_ok-file.ensures.found in
+    ⊎_elim (λ is. inl is)
+    (λ reads. inr (reads_told c.args.self.now c.args.name.now c.in_ok-file.file c.args.at (length c.args.bytes.now)
+    found.named reads)) (c.write_plain.ensures.halts failed)
+
+pub returns-in_err-file-clause-halts : goal.returns-in_err-file-clause-halts
+returns-in_err-file-clause-halts g c failed =
+    let v = view_now c.args.self.now.tables in
+    let name = c.args.name.now in
+    let refused : c.from_residual.result ≡ Err c.in_err-file.field-0.0 = search rules in
+    absurd (refused_not_failed v (Write name c.args.at c.args.bytes.now) c.in_err-file.field-0.0
+    (c.in_err-file.ensures.refused (write name c.args.at c.args.bytes.now v)) (cc))
+
+pub returns-in_err-file-clause-moves : goal.returns-in_err-file-clause-moves
+returns-in_err-file-clause-moves g c w kept =
+    let name = c.args.name.now in
+    let refused : c.from_residual.result ≡ Err c.in_err-file.field-0.0 = search rules in
+    still_moves c.args.self.now.tables (Write name c.args.at c.args.bytes.now) (done_reply c.from_residual.result)
+    (ap (λ (r : Result (Unit {0}) Fault). inside_after (Write name c.args.at c.args.bytes.now) (done_reply r)
+    (inside_now c.args.self.now.tables)) refused)

@@ -1,6 +1,8 @@
-use Rattle.std.proofs.Common.{sym, ◌∙◌, subst}
+use Rattle.std.proofs.Common.{sym, ◌∙◌, ap, subst}
 use Rattle.vdisk.specs.Steps.{Keeps}
 use Rattle.meta_log.specs.declared.log.MetaLog.{MetaLog}
+use Rattle.meta_log.specs.Meta.{epoch_in}
+use Rattle.volume_inside.specs.Layout.{journal_at, half_bytes}
 use Rattle.volume_inside.specs.Inside.{inside_at}
 use Rattle.volume_inside.specs.Shows.{Kept, ShowsEither}
 use Rattle.volume_tables.specs.Log.{log_state}
@@ -33,3 +35,10 @@ pub returns-clause-inside : goal.returns-clause-inside
 returns-clause-inside g c =
     let r = c.release.ensures in
     (λ i. inside_at (r.tables i) (log_state (r.log i)).image) ∙ c.commit_log.ensures.inside
+
+pub returns-clause-spent : goal.returns-clause-spent
+returns-clause-spent g c stored is =
+    let n = c.args.self.now.clusters in
+    ap (λ (l : MetaLog g.row.D.Denot g.D.Disk). epoch_in journal_at (half_bytes n) (log_state l).image)
+    c.release.ensures.log
+    ∙ c.in_ok-commit_log.ensures.spent stored is

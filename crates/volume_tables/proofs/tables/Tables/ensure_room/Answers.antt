@@ -55,3 +55,6 @@ pub returns-clause-stops : goal.returns-clause-stops
 returns-clause-stops g c =
     let s = c.commit.ensures in
     stopped_by c.args.self.now c.commit.new.self c.commit.result s.refused (λ f. (s.failed f).1) s.runs s.still_runs
+
+pub returns-clause-spent : goal.returns-clause-spent
+returns-clause-spent g c stored is more = c.commit.ensures.spent stored is

@@ -1,0 +1,48 @@
+-- The inside of the image of a disk is that of the tables, once these are stored.
+use Rattle.std.specs.Prelude.{◌≡◌, ℕ, Result, Ok}
+use Rattle.std.proofs.Common.{ap, sym, ◌∙◌, subst}
+use Rattle.vdisk.specs.declared.disk.Disk.{Ghosts}
+use Rattle.byte_map.specs.Words.{Map}
+use Rattle.plain_volume.specs.Volume.{Volume}
+use Rattle.volume_inside.specs.Inside.{inside_at}
+use Rattle.volume_inside.specs.InsideOf.{InsideOf}
+use Rattle.volume_inside.specs.Rules.{IsVolume}
+use Rattle.volume_inside.specs.Shows.{Kept}
+use Rattle.volume_inside.specs.Typed.{Typed}
+use Rattle.volume_tables.specs.Mount.{read_meta}
+use Rattle.volume_tables.specs.Tables.{tables_now, inside_now, disk_of, area_of, IsTables}
+use Rattle.volume_tables.specs.declared.tables.Tables.{Tables}
+use Rattle.volume_tables.proofs.Crashes.{area_spells}
+use Rattle.volume_tables.proofs.Told.{told_by_image}
+use Rattle.volume_core.specs.States.{state_at, IsSettled, IsStateOf}
+
+module _ {D : Type 0} {d : Ghosts D} where
+  stored_inside : (u : Tables D d) (stored : Typed) (w : Volume) → IsTables u stored → tables_now u ≡ stored
+      → Kept (area_of u) (disk_of u) w → InsideOf read_meta (disk_of u).image (Ok (inside_now u))
+  stored_inside u stored w is now kept =
+      let s = disk_of u in
+      let shows = kept s.image s.reads in
+      let has = shows.has in
+      let spells = area_spells u stored is s.image s.reads in
+      let both : ◌≡◌ {A = Result Map ℕ} (Ok has.stored) (Ok is.map) = sym has.spells ∙ spells in
+      let same : has.stored ≡ is.map = cc in (
+        u.clusters,
+        record {
+          superblock = has.superblock;
+          size = has.size;
+          stored = is.map;
+          spells = spells;
+          volume = subst (λ (m : Map). IsVolume u.clusters m) same has.volume;
+          is = ap (λ (q : Typed). inside_at q s.image) (is.is ∙ sym now);
+        },
+      )
+
+  -- the state of tables that are stored is one of the disk's image
+  pub stored_state : (t : Tables D d) (stored : Typed) (w : Volume) → IsTables t stored → tables_now t ≡ stored
+      → Kept (area_of t) (disk_of t) w → IsSettled (state_at t) → IsStateOf (disk_of t).image (state_at t)
+  stored_state t stored w is now kept settled = record {
+    clusters = t.size;
+    inside = stored_inside t stored w is now kept;
+    epoch = let told = told_by_image t stored is in told.counts;
+    settled = settled;
+  }

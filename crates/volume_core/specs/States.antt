@@ -1,0 +1,146 @@
+-- The state of a volume: what it holds, with no place of a cluster, and what is wanting for a call in it.
+use Rattle.std.specs.Prelude.{◌≡◌, ◌+◌, ◌-◌, ◌*◌, ◌&&◌, ℕ, Bool, false, not, cond, nat_eq, nat_le, nat_lt, List}
+use Rattle.std.specs.Prelude.{[], ◌∷◌, length, Option, Some, None, Ok}
+use Rattle.std.specs.FinMap.{find}
+use Rattle.vdisk.specs.declared.disk.Disk.{Ghosts}
+use Rattle.byte_map.specs.Words.{bytes_cmp}
+use Rattle.meta_log.specs.Meta.{epoch_in}
+use Rattle.plain_volume.specs.Volume.{Volume}
+use Rattle.plain_volume.specs.declared.call.Call.{Call}
+use Rattle.plain_volume.specs.declared.call.Call.TheVariants.{Create, Write, SetLength, Rename, Delete, Read, Digest}
+use Rattle.plain_volume.specs.declared.call.Call.TheVariants.{Stat, Next, Flush}
+use Rattle.plain_volume.specs.declared.call.Fault.{Fault}
+use Rattle.plain_volume.specs.declared.call.Fault.TheVariants.{Worn, TableFull, Full}
+use Rattle.table_records.specs.declared.records.Extent.{Extent}
+use Rattle.volume_inside.specs.Fresh.{fresh_tables}
+use Rattle.volume_inside.specs.Inside.{Inside, inside_at}
+use Rattle.volume_inside.specs.InsideOf.{InsideOf}
+use Rattle.volume_inside.specs.Layout.{journal_at, half_bytes, data_clusters}
+use Rattle.volume_inside.specs.Rules.{next_id_of}
+use Rattle.volume_inside.specs.Typed.{Typed, FileBlock}
+use Rattle.volume_inside.specs.View.{view}
+use Rattle.volume_tables.specs.Log.{log_epoch}
+use Rattle.volume_tables.specs.Mount.{read_meta}
+use Rattle.volume_tables.specs.Sizes.{tables_bytes}
+use Rattle.volume_tables.specs.Tables as tables
+use Rattle.volume_tables.specs.Tables.{inside_now, would_wear}
+use Rattle.volume_tables.specs.declared.tables.Tables.{Tables}
+use Rattle.volume_files.specs.Lengths.{for_file, length_of}
+use Rattle.volume_files.specs.Needs.{create_needs, rename_needs, delete_needs, write_needs, length_needs}
+use Rattle.volume_files.specs.Wants.{Needs, has_room, last_id}
+use Rattle.volume_core.specs.declared.volume.Volume.{Volume as Mounted}
+
+-- ---- states
+
+-- THE STATE OF A VOLUME: how many clusters its image has, and its inside; the epoch of its journal, whether a commit
+-- now would be refused for want of another one, and which calls find room without a commit
+pub record VolumeState : Type 0 where
+  pub clusters : ℕ
+  pub inside : Inside
+  pub epoch : ℕ
+  pub wears : Bool
+  pub has_room : Needs → Bool
+
+-- the plain volume in a state
+abbrev pub volume_in : VolumeState → Volume
+volume_in s = view s.inside
+
+-- ---- what is wanting in a state
+
+abbrev pub extents_told : List (FileBlock × List ℕ) → List (FileBlock × Extent)
+extents_told [] = []
+extents_told (e ∷ blocks) = (e.0, record { cluster = 0; valid = length e.1 }) ∷ extents_told blocks
+
+-- the tables that an inside tells: each block is an extent of its bytes, whose cluster is not told
+abbrev pub tables_told : Inside → Typed
+tables_told i = record {
+  volume = i.volume;
+  names = i.names;
+  files = i.files;
+  extents = extents_told i.blocks;
+  settings = i.settings;
+  results = i.results;
+}
+
+-- the data clusters that no block takes
+abbrev pub left_in : VolumeState → ℕ
+left_in s = data_clusters s.clusters - length s.inside.blocks
+
+-- THE RESOURCE THAT IS WANTING in a state, the first one in this order: ids, room in a checkpoint, clusters, and
+-- epochs, where a commit must come first
+abbrev pub wanting_in : VolumeState → Needs → Option Fault
+wanting_in s n =
+    cond (n.draws && nat_eq (next_id_of (tables_told s.inside)) last_id) (Some Worn)
+    (cond (nat_lt (half_bytes s.clusters) (tables_bytes (tables_told s.inside) + n.grows)) (Some TableFull)
+    (cond (nat_lt (left_in s) n.clusters) (Some (Full n.clusters (left_in s)))
+    (cond (not (s.has_room n) && s.wears) (Some Worn) None)))
+
+-- the file that a name has
+abbrev pub file_in : VolumeState → List ℕ → Option ℕ
+file_in s name = find bytes_cmp name s.inside.names
+
+abbrev pub write_wants_in : VolumeState → ℕ → ℕ → List ℕ → Option Fault
+write_wants_in s file at [] = None
+write_wants_in s file at (b ∷ bytes) =
+    wanting_in s (write_needs (tables_told s.inside) file at (length (b ∷ bytes)))
+
+abbrev pub length_wants_in : VolumeState → ℕ → ℕ → Option Fault
+length_wants_in s file len =
+    wanting_in s (length_needs (tables_told s.inside) file (length_of (tables_told s.inside) file) len)
+
+-- WHAT EACH CALL WANTS in a state: an id, room in the tables, clusters, or an epoch, where one is at its end
+abbrev pub wants_in : VolumeState → Call → Option Fault
+wants_in s (Create name) = wanting_in s (create_needs name)
+wants_in s (Write name at bytes) = for_file (file_in s name) (λ file. write_wants_in s file at bytes)
+wants_in s (SetLength name len) = for_file (file_in s name) (λ file. length_wants_in s file len)
+wants_in s (Rename from to) = wanting_in s (rename_needs from to)
+wants_in s (Delete name) = wanting_in s (delete_needs name)
+wants_in s Flush = cond s.wears (Some Worn) None
+wants_in s (Read name at count) = None
+wants_in s (Digest name) = None
+wants_in s (Stat name) = None
+wants_in s (Next after) = None
+
+-- ---- which states there are
+
+module _ {D : Type 0} {d : Ghosts D} where
+  -- the state of the tables of a volume, and of a mounted volume
+  abbrev pub state_at : Tables D d → VolumeState
+  state_at t = record {
+    clusters = tables.clusters_in t;
+    inside = inside_now t;
+    epoch = log_epoch t.log;
+    wears = would_wear t;
+    has_room = has_room t;
+  }
+
+  abbrev pub state_of : Mounted D d → VolumeState
+  state_of v = state_at v.tables
+
+-- which calls find room without a commit, where nothing waits for one and so many clusters are left
+abbrev pub finds_room : ℕ → Needs → Bool
+finds_room left n = nat_le n.records 65472 && nat_le n.clusters left
+
+-- nothing waits for a commit: none is refused, and a call finds room where its records fit and its clusters are left
+pub record IsSettled (s : VolumeState) : Type 0 where
+  pub wears : s.wears ≡ false
+  pub room : (n : Needs) → s.has_room n ≡ finds_room (left_in s) n
+
+-- THE STATE OF AN IMAGE, which fixes it: the image's inside, its number of clusters, the epoch that its journal tells,
+-- and nothing that waits for a commit
+pub record IsStateOf (image : List ℕ) (s : VolumeState) : Type 0 where
+  pub clusters : length image ≡ 4096 * s.clusters
+  pub inside : InsideOf read_meta image (Ok s.inside)
+  pub epoch : s.epoch ≡ epoch_in journal_at (half_bytes s.clusters) image
+  pub settled : IsSettled s
+
+-- the inside of a volume that has just been formatted
+abbrev pub fresh_inside : Inside
+fresh_inside = inside_at fresh_tables []
+
+-- THE STATE OF A FRESH VOLUME of n clusters: no id was drawn, the epoch is the first, and nothing waits for a commit
+pub record IsFreshState (n : ℕ) (s : VolumeState) : Type 0 where
+  pub clusters : s.clusters ≡ n
+  pub inside : s.inside ≡ fresh_inside
+  pub epoch : s.epoch ≡ 1
+  pub settled : IsSettled s

@@ -1,0 +1,93 @@
+-- Where the journal of the tables goes on, as the images tell it, and what a commit spends.
+use Rattle.std.specs.Prelude.{◌≡◌, ◌+◌, ◌&&◌, ℕ, Bool, true, List, Ok, refl}
+use Rattle.std.proofs.Common.{sym, ◌∙◌, ap, arith}
+use Rattle.std.proofs.lemmas.Bool.{eq-eqb}
+use Rattle.vdisk.specs.declared.disk.Disk.{Ghosts}
+use Rattle.meta_log.specs.Log as journal
+use Rattle.meta_log.specs.Meta.{meta_of, place_in, epoch_in}
+use Rattle.meta_log.specs.Ready.{GoesOnFrom}
+use Rattle.meta_log.specs.declared.log.MetaLog.{MetaLog}
+use Rattle.meta_log.proofs.Lives.{image_goes_on, stands_goes_on, image_spells, stands_spells}
+use Rattle.table_records.specs.declared.records.ResultRecord.{ResultRecord}
+use Rattle.table_rules.specs.declared.records.LastResults.{LastResults}
+use Rattle.volume_inside.specs.Layout.{journal_at, half_bytes}
+use Rattle.volume_inside.specs.Typed.{Typed}
+use Rattle.volume_tables.specs.Ends.{same_result, one_unless, unstaged, unstaged_in}
+use Rattle.volume_tables.specs.Log.{log_state, log_staged, log_place, log_epoch}
+use Rattle.volume_tables.specs.Mount.{settled, ends_from}
+use Rattle.volume_tables.specs.Mounted.{AreTablesOf}
+use Rattle.volume_tables.specs.Staging.{IsQuiet}
+use Rattle.volume_tables.specs.Tables.{disk_of, due_of, epochs_due, IsToldBy, IsTables}
+use Rattle.volume_tables.specs.declared.tables.Tables.{Tables}
+
+module _ {D : Type 0} {d : Ghosts D} (t : Tables D d) where
+  placed : (image : List ℕ) → GoesOnFrom t.log.at t.log.half (log_place t.log) (log_epoch t.log) image
+      → IsToldBy t image
+  placed image from = record {
+    next = from.next ∙ (λ i. place_in (t.place i) (t.half i) image);
+    counts = from.counts ∙ (λ i. epoch_in (t.place i) (t.half i) image);
+  }
+
+  pub told_by_image : (stored : Typed) → IsTables t stored → IsToldBy t (disk_of t).image
+  told_by_image stored is =
+      placed (disk_of t).image (image_goes_on (journal.layout_of t.log) (log_state t.log) is.map is.log.stands)
+
+  pub told_by_crash : (stored : Typed) → IsTables t stored → (c : List ℕ) → (disk_of t).may_leave c → IsToldBy t c
+  told_by_crash stored is c left =
+      placed c (stands_goes_on (journal.layout_of t.log) (log_state t.log) is.map is.log.stands c left)
+
+  -- an image that spells the stored map has all its tables
+  held : (stored : Typed) (is : IsTables t stored) (image : List ℕ) → meta_of t.log.at t.log.half image ≡ Ok is.map
+      → AreTablesOf t.clusters image stored
+  held stored is image spells = record {
+    stored = is.map;
+    spells = (λ i. meta_of (sym t.place i) (sym t.half i) image) ∙ spells;
+    is = is.is;
+  }
+
+  pub held_by_image : (stored : Typed) → IsTables t stored → AreTablesOf t.clusters (disk_of t).image stored
+  held_by_image stored is =
+      held stored is (disk_of t).image (image_spells (journal.layout_of t.log) (log_state t.log) is.map is.log.stands)
+
+  pub held_by_crash : (stored : Typed) → IsTables t stored → (c : List ℕ) → (disk_of t).may_leave c
+      → AreTablesOf t.clusters c stored
+  held_by_crash stored is c left =
+      held stored is c (stands_spells (journal.layout_of t.log) (log_state t.log) is.map is.log.stands c left)
+
+  -- once the ends of jobs were staged the journal says of a commit what the tables say
+  module _ (l : MetaLog D d) (quiet : IsQuiet t.log l) (due : log_staged l ≡ due_of t) where
+    abbrev HasSpent : MetaLog D d → Type 0
+    HasSpent after =
+        epoch_in journal_at (half_bytes t.clusters) (log_state after).image
+        ≡ epoch_in journal_at (half_bytes t.clusters) (disk_of t).image
+        + journal.epochs_for (half_bytes t.clusters)
+        (place_in journal_at (half_bytes t.clusters) (disk_of t).image) (due_of t)
+
+    pub epochs_same : l.epoch + journal.epochs_taken l ≡ log_epoch t.log + epochs_due t
+    epochs_same = λ i. quiet.place.epoch i + journal.epochs_for (quiet.place.half i) (quiet.place.next i) (due i)
+
+    pub spent_same : (after : MetaLog D d) → journal.HasSpentEpochs l after → HasSpent after
+    spent_same after spent =
+        let at : l.at ≡ journal_at = quiet.place.at ∙ t.place in
+        let half : l.half ≡ half_bytes t.clusters = quiet.place.half ∙ t.half in
+        let before : (log_state l).image ≡ (disk_of t).image = λ i. (d.state (quiet.disk i)).image in
+        sym (λ i. epoch_in (at i) (half i) (log_state after).image) ∙ spent
+        ∙ (λ i. epoch_in (at i) (half i) (before i)
+        + journal.epochs_for (half i) (place_in (at i) (half i) (before i)) (due i))
+
+-- ---- no end of a job that was read is left to be staged
+
+result_itself : (r : ResultRecord) → same_result r r ≡ true
+result_itself r = λ i. eq-eqb r.second r.second refl i && eq-eqb r.result r.result refl i
+
+settled_itself : (r : ResultRecord) → unstaged (settled r) ≡ 0
+settled_itself r = ap (λ (b : Bool). one_unless b) (result_itself r)
+
+pub none_unstaged : (r : LastResults) → unstaged_in (ends_from r) ≡ 0
+none_unstaged r = omega (
+  arith,
+  settled_itself r.optimization,
+  settled_itself r.garbage_collection,
+  settled_itself r.scrubbing,
+  settled_itself r.unoptimization,
+)
