@@ -1,11 +1,11 @@
-// Random overwrites of blocks in a large and in a small file of one volume over a real file.
+// Random overwrites in a large and in a small file of one volume over a real file.
 use crate::calls::{create, flush, format, write};
 use crate::counted::{Counted, Counts};
 use crate::faults::BenchFault;
 use crate::files::clear;
 use crate::random::{add_random, mixed};
 use crate::report::{nanos_since, portion};
-use crate::scripts::{BLOCK_BYTES, FILE_BYTES};
+use crate::scripts::{BLOCK_BYTES, FILE_BYTES, PART_BYTES};
 use std::alloc::{AllocError, Global};
 use std::fs::{self, File};
 use std::io;
@@ -48,9 +48,36 @@ struct Times {
     small: u64,
 }
 
+/// The same of blocks, and of parts of 64 KiB.
+#[derive(Clone, Copy)]
+struct AllTimes {
+    blocks: Times,
+    parts: Times,
+}
+
+/// The names of the figures of overwrites.
+#[derive(Clone, Copy)]
+struct Names {
+    large: &'static str,
+    small: &'static str,
+    ratio: &'static str,
+}
+
+const BLOCKS: Names = Names {
+    large: "overwrite.large",
+    small: "overwrite.small",
+    ratio: "overwrite.ratio",
+};
+
+const PARTS: Names = Names {
+    large: "overwrite.parts.large",
+    small: "overwrite.parts.small",
+    ratio: "overwrite.parts.ratio",
+};
+
 /// Fills a file of 1 GiB and one of 1 MiB in one volume, so that its tables hold an extent for each of their 262,144
 /// and 256 blocks, and flushes. Then it overwrites `count` blocks of the large file, drawn at random, and flushes, and
-/// does the same with the small one. The time of each has its flush in it.
+/// does the same with the small one, and then with parts of 64 KiB. The time of each has its flush in it.
 pub fn measure(
     rt: &(impl Print + Eprint + Alloc<A = Global> + Clock + Files<File = File>),
     count: u32,
@@ -59,21 +86,23 @@ pub fn measure(
     let disk = Counted::new(FileDisk::open(rt, PATH, true));
     let (times, counts) = fill_and_overwrite(rt, disk, count)?;
     tell_counts(rt, count, counts)?;
-    tell_times(rt, count, times)?;
+    tell_times(rt, BLOCKS, count, times.blocks)?;
+    tell_times(rt, PARTS, count, times.parts)?;
     fs::remove_file(rt, PATH)?;
     Ok(())
 }
 
-/// Makes a volume on a disk, fills both files, and overwrites so many blocks of each.
+/// Makes a volume on a disk, fills both files, and overwrites so many blocks and parts of each.
 fn fill_and_overwrite(
     rt: &(impl Alloc<A = Global> + Clock),
     disk: Counted<FileDisk>,
     count: u32,
-) -> Result<(Times, Counts), BenchFault> {
+) -> Result<(AllTimes, Counts), BenchFault> {
     let mut volume = format(rt.alloc(), disk, CLUSTERS)?;
     fill_both(rt, &mut volume)?;
-    let times = overwrite_both(rt, &mut volume, count)?;
-    Ok((times, volume.into_disk().counts))
+    let blocks = overwrite_both(rt, &mut volume, BLOCK_BYTES, count)?;
+    let parts = overwrite_both(rt, &mut volume, PART_BYTES, count)?;
+    Ok((AllTimes { blocks, parts }, volume.into_disk().counts))
 }
 
 fn tell_counts(rt: &impl Print, count: u32, counts: Counts) -> io::Result<()> {
@@ -83,17 +112,11 @@ fn tell_counts(rt: &impl Print, count: u32, counts: Counts) -> io::Result<()> {
     )
 }
 
-fn tell_times(rt: &impl Eprint, count: u32, times: Times) -> io::Result<()> {
+fn tell_times(rt: &impl Eprint, names: Names, count: u32, times: Times) -> io::Result<()> {
     let count = u64::from(count);
-    portion(rt, "overwrite.large", times.large, count, "us")?;
-    portion(rt, "overwrite.small", times.small, count, "us")?;
-    portion(
-        rt,
-        "overwrite.ratio",
-        times.large,
-        times.small,
-        "large/small",
-    )
+    portion(rt, names.large, times.large, count, "us")?;
+    portion(rt, names.small, times.small, count, "us")?;
+    portion(rt, names.ratio, times.large, times.small, "large/small")
 }
 
 fn fill_both<D: Disk>(
@@ -105,13 +128,14 @@ fn fill_both<D: Disk>(
     fill(volume, SMALL, &bytes)
 }
 
-/// Overwrites so many blocks of each file.
+/// Overwrites so many pieces of each file, of so many bytes.
 fn overwrite_both<D: Disk>(
     rt: &(impl Alloc<A = Global> + Clock),
     volume: &mut Volume<D>,
+    bytes: u64,
     count: u32,
 ) -> Result<Times, BenchFault> {
-    let block = random_bytes(rt.alloc(), BLOCK_BYTES)?;
+    let block = random_bytes(rt.alloc(), bytes)?;
     let large = time_overwrite(rt, volume, LARGE, &block, count)?;
     let small = time_overwrite(rt, volume, SMALL, &block, count)?;
     Ok(Times { large, small })
@@ -132,7 +156,7 @@ fn fill<D: Disk>(volume: &mut Volume<D>, file: Target, bytes: &[u8]) -> Result<(
     flush_all(volume)
 }
 
-/// The us that it takes to overwrite so many blocks of a file, and to flush.
+/// The us that it takes to overwrite so many pieces of a file, and to flush.
 fn time_overwrite<D: Disk>(
     rt: &impl Clock,
     volume: &mut Volume<D>,
@@ -146,7 +170,7 @@ fn time_overwrite<D: Disk>(
     Ok(nanos / 1000)
 }
 
-/// Overwrites so many blocks of a file, drawn at random, and flushes.
+/// Overwrites so many pieces of a file, drawn at random, and flushes.
 fn overwrite<D: Disk>(
     volume: &mut Volume<D>,
     file: Target,
@@ -154,7 +178,7 @@ fn overwrite<D: Disk>(
     count: u32,
 ) -> Result<(), BenchFault> {
     for k in 0..count {
-        write_at(volume, file, place_of(file, k), block)?;
+        write_at(volume, file, place_of(file, k, block.len() as u64), block)?;
     }
     flush_all(volume)
 }
@@ -181,9 +205,10 @@ fn done(is_done: bool) -> Result<(), BenchFault> {
     }
 }
 
-/// Where a block of a file begins, drawn by a number.
-fn place_of(file: Target, number: u32) -> u64 {
-    let blocks = u64::from(file.mebibytes) * (FILE_BYTES / BLOCK_BYTES);
-    let block = mixed(u64::from(number)) % blocks.max(1);
+/// Where a piece of so many bytes of a file begins, at a block that is drawn by a number.
+fn place_of(file: Target, number: u32, bytes: u64) -> u64 {
+    let length = u64::from(file.mebibytes) * FILE_BYTES;
+    let beginnings = length.saturating_sub(bytes) / BLOCK_BYTES + 1;
+    let block = mixed(u64::from(number)) % beginnings;
     block.saturating_mul(BLOCK_BYTES)
 }

@@ -9,7 +9,7 @@ pub const FILE_BYTES: u64 = 1_048_576;
 pub const BLOCK_BYTES: u64 = 4096;
 
 /// The bytes of a part that is written anew, and how many of them are as long as a file.
-const PART_BYTES: u64 = 65_536;
+pub const PART_BYTES: u64 = 65_536;
 
 const PARTS: u64 = FILE_BYTES / PART_BYTES;
 
@@ -85,5 +85,15 @@ pub fn rewrite_script(alloc: Global, files: u32) -> Result<Vec<u8>, AllocError> 
         }
     }
     script.extend_from_slice(b"flush\n")?;
+    Ok(script)
+}
+
+/// A script that reads so many files whole.
+pub fn read_script(alloc: Global, files: u32) -> Result<Vec<u8>, AllocError> {
+    let mut script = Vec::new(alloc);
+    for file in 0..files {
+        let line = format!(in alloc; "read file-{file} 0 {FILE_BYTES}\n")?;
+        script.extend_from_slice(line.as_bytes())?;
+    }
     Ok(script)
 }

@@ -4,20 +4,23 @@ use crate::faults::{BenchFault, or_refused};
 use crate::files::clear;
 use crate::memory::most_resident;
 use crate::report::{figure, nanos_since, per_mebibyte, portion, rate};
-use crate::scripts::{FILE_BYTES, ingest_script, rewrite_script};
+use crate::scripts::{FILE_BYTES, ingest_script, read_script, rewrite_script};
 use crate::served::{Served, time_over};
 use cmdlet_line::{Memory, Words};
 use std::alloc::Global;
 use std::fs::{self, File};
-use std::io::{self, Write};
+use std::io::{self, Read, Write};
 use std::rt::{Clock as SystemTime, Files};
 use std::time::Instant;
-use vdisk::{Disk, FileDisk, MemorySink, MemorySource, Source};
+use vdisk::{Disk, FileDisk, MemorySink, MemorySource, Sink, Source, WriterSink};
 
 /// The image, and the copy, in the folder that the bench is started in.
 const IMAGE: &str = "ddpbench-store.img";
 
 const COPY: &str = "ddpbench-store.copy";
+
+/// What is written here is gone.
+const NOWHERE: &str = "/dev/null";
 
 /// The fewest and the most clusters of an image.
 const LEAST_CLUSTERS: u64 = 4096;
@@ -61,14 +64,17 @@ const REWRITE: Names = Names {
 };
 
 /// Stores `size` files of a MiB each with one flush at the end, copies the same bytes into another file with one sync,
-/// mounts the image again, and writes a MiB of each file anew. The time of a run has its format or mount in it.
+/// mounts the image again, reads the files and the copy back, and writes a MiB of each file anew. The time of a run has
+/// its format or mount in it, but for that of the reads.
 pub fn measure(
     rt: &(impl Print + Eprint + Alloc<A = Global> + SystemTime + Files<File = File>),
     size: u32,
 ) -> Result<(), BenchFault> {
     clear(rt, IMAGE);
     copy_and_ingest(rt, size)?;
-    mount(rt)?;
+    let mounted = mount(rt)?;
+    read_copy(rt, size)?;
+    read_back(rt, size, mounted)?;
     rewrite(rt, size)?;
     fs::remove_file(rt, IMAGE)?;
     fs::remove_file(rt, COPY)?;
@@ -119,15 +125,70 @@ fn ingest(
     Ok(())
 }
 
-/// Mounts the image for a script with no line.
+/// Mounts the image for a script with no line, and tells the ns that it takes.
 fn mount(
     rt: &(impl Print + Eprint + Alloc<A = Global> + SystemTime + Files<File = File>),
-) -> Result<(), BenchFault> {
+) -> Result<u64, BenchFault> {
     let words = mount_words(rt.alloc())?;
     let served = serve(rt, words, Vec::new(rt.alloc()))?.served;
     println!(rt; "store mounted {}", served.status)?;
     figure(rt, "store.mount", served.nanos / 1000, "us")?;
+    Ok(served.nanos)
+}
+
+/// Reads the copy, in pieces of a MiB.
+fn read_copy(
+    rt: &(impl Eprint + Alloc<A = Global> + SystemTime + Files<File = File>),
+    size: u32,
+) -> Result<(), BenchFault> {
+    let mut piece = vec![in rt.alloc(); 0u8; FILE_BYTES as usize]?;
+    let start = Instant::now(rt)?;
+    read_pieces(rt, size, &mut piece)?;
+    let nanos = nanos_since(rt, start)?;
+    rate(rt, "store.copy_read", bytes_of(size), nanos)?;
     Ok(())
+}
+
+fn read_pieces(rt: &impl Files<File = File>, size: u32, piece: &mut [u8]) -> io::Result<()> {
+    let mut file = File::open(rt, COPY)?;
+    for _ in 0..size {
+        file.read_exact(piece)?;
+    }
+    Ok(())
+}
+
+/// Reads the files from the image, a MiB an answer, which go nowhere. The time is told without that of a mount.
+fn read_back(
+    rt: &(impl Print + Eprint + Alloc<A = Global> + SystemTime + Files<File = File>),
+    size: u32,
+    mounted: u64,
+) -> Result<(), BenchFault> {
+    let words = mount_words(rt.alloc())?;
+    let script = MemorySource::new(read_script(rt.alloc(), size)?);
+    let sink = WriterSink::new(File::create(rt, NOWHERE)?);
+    let served = serve_to(rt, &words, script, sink)?;
+    println!(rt;
+        "store read {size} lines {} status {}",
+        served.lines, served.status
+    )?;
+    rate(
+        rt,
+        "store.read",
+        bytes_of(size),
+        served.nanos.saturating_sub(mounted),
+    )?;
+    Ok(())
+}
+
+/// Serves a script over the image, to a sink.
+fn serve_to<S: Source + Drop, K: Sink + Drop>(
+    rt: &(impl Alloc<A = Global> + SystemTime + Files<File = File>),
+    words: &Words,
+    mut script: S,
+    mut sink: K,
+) -> io::Result<Served> {
+    let mut disk = FileDisk::open(rt, IMAGE, true);
+    time_over(rt, words, &mut script, &mut sink, &mut disk)
 }
 
 /// Writes the files anew.
