@@ -141,3 +141,13 @@ lent key value e m k v is = (λ t. Some (k t, v t)) ∙ is
 -- a value as long as the one that is there
 pub as_long : (k v w : List ℕ) (m : Map) → find bytes_cmp k m ≡ Some w → option_map (length {A = ℕ}) (find bytes_cmp k m) ≡ Some (length v) → length w ≡ length v
 as_long k v w m there same = let long = ap (λ (o : Option (List ℕ)). option_map (length {A = ℕ}) o) there in cc
+
+-- a value that is there, as long as another
+pub as_found : (k v : List ℕ) (m : Map) → option_map (length {A = ℕ}) (find bytes_cmp k m) ≡ Some (length v)
+    → (w : List ℕ) × ((find bytes_cmp k m ≡ Some w) × (length w ≡ length v))
+as_found k v m same = by (find bytes_cmp k m) refl same
+  where
+    by : (o : Option (List ℕ)) → find bytes_cmp k m ≡ o → option_map (length {A = ℕ}) o ≡ Some (length v)
+        → (w : List ℕ) × ((find bytes_cmp k m ≡ Some w) × (length w ≡ length v))
+    by None is long = absurd (cc)
+    by (Some w) is long = (w, (is, cc))

@@ -5,3 +5,4 @@ mod Edits
 mod Found
 mod Dropped
 mod LaidOut
+mod Counted

@@ -1,5 +1,5 @@
 -- What a put and a dropped range do to a map: its order, what it has at a key, its length and its bytes.
-use Rattle.std.specs.Prelude.{◌≡◌, ℕ, ◌+◌, ◌≤◌, Bool, true, false, cond, not, ◌&&◌, T, List, [], ◌∷◌, length, is_some, Option, Some, None, refl}
+use Rattle.std.specs.Prelude.{◌≡◌, ℕ, ◌+◌, ◌*◌, ◌≤◌, Bool, true, false, cond, not, ◌&&◌, T, List, [], ◌∷◌, length, is_some, Option, Some, None, refl}
 use Rattle.std.proofs.Common.{sym, ◌∙◌, ap, subst, arith}
 use Rattle.std.specs.declared.cmp.Ordering.{Ordering}
 use Rattle.std.specs.declared.cmp.Ordering.TheVariants.{Less, Equal, Greater}
@@ -7,7 +7,7 @@ use Rattle.std.specs.Ordering.{is_lt, is_eq}
 use Rattle.std.specs.Cmp.Lexicographic.{nat_list_cmp_total}
 use Rattle.std.specs.FinMap.Entries.{by_order, put, find, below_all, is_sorted, is_sorted-put, is_sorted-where_key, length-put, find-put, find-where_key}
 use Rattle.std.proofs.lemmas.Map.Lookups.{exact_bytes}
-use Rattle.byte_map.specs.Words.{Map, bytes_cmp, is_between, without, bytes_in}
+use Rattle.byte_map.specs.Words.{Map, bytes_cmp, is_between, without, bytes_in, bytes_with}
 
 pub first_true : (a b : Bool) → T (a && b) → T a
 first_true true b h = tt
@@ -110,3 +110,19 @@ bytes_in_without from to (e ∷ m) =
       | true ↦ omega (arith, rest)
       | false ↦ omega (arith, rest)
     ]
+
+-- ---- how many bytes, with some more for each pair
+
+pub bytes_with_put_new : (each : ℕ) (k v : List ℕ) (m : Map) → T (is_sorted bytes_cmp m) → find bytes_cmp k m ≡ None
+    → bytes_with each (put bytes_cmp k v m) ≡ bytes_with each m + (each + (length k + length v))
+bytes_with_put_new each k v m sorted new =
+    let long = ap (λ (n : ℕ). each * n) (length_put_new k v m sorted new) in
+    let bytes = bytes_in_put_new k v m new in
+    omega (arith, long, bytes)
+
+pub bytes_with_put_present : (each : ℕ) (k v w : List ℕ) (m : Map) → T (is_sorted bytes_cmp m) → find bytes_cmp k m ≡ Some w
+    → bytes_with each (put bytes_cmp k v m) + length w ≡ bytes_with each m + length v
+bytes_with_put_present each k v w m sorted present =
+    let long = ap (λ (n : ℕ). each * n) (length_put_present k v w m sorted present) in
+    let bytes = bytes_in_put_present k v w m sorted present in
+    omega (arith, long, bytes)

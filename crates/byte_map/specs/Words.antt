@@ -1,5 +1,5 @@
 -- A map from byte strings to byte strings: its pairs in the order of their keys, under std's `find` and `put`.
-use Rattle.std.specs.Prelude.{ℕ, ◌+◌, List, [], ◌∷◌, length, Bool, not, ◌&&◌, Option, Some, None}
+use Rattle.std.specs.Prelude.{ℕ, ◌+◌, ◌*◌, List, [], ◌∷◌, length, Bool, not, ◌&&◌, Option, Some, None}
 use Rattle.std.specs.declared.cmp.Ordering.{Ordering}
 use Rattle.std.specs.Ordering.{nat_cmp, is_lt, is_le}
 use Rattle.std.specs.Cmp.Lexicographic.{slice_cmp}
@@ -29,6 +29,10 @@ is_between cmp from to k = is_le (cmp from k) && is_lt (cmp k to)
 abbrev pub without : List ℕ → List ℕ → Map → Map
 without from to m = where_key bytes_cmp (λ k. not (is_between bytes_cmp from to k)) m
 
+-- the pairs of the map whose keys are in a range
+abbrev pub pairs_between : List ℕ → List ℕ → Map → Map
+pairs_between from to m = where_key bytes_cmp (λ k. is_between bytes_cmp from to k) m
+
 -- the bytes of a key and its value
 abbrev pub pair_bytes : List ℕ × List ℕ → ℕ
 pair_bytes e = length e.0 + length e.1
@@ -37,3 +41,7 @@ pair_bytes e = length e.0 + length e.1
 abbrev pub bytes_in : Map → ℕ
 bytes_in [] = 0
 bytes_in (e ∷ m) = pair_bytes e + bytes_in m
+
+-- the bytes of all keys and values, and so many more for each pair
+abbrev pub bytes_with : ℕ → Map → ℕ
+bytes_with each m = each * length m + bytes_in m

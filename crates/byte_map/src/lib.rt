@@ -7,14 +7,17 @@
 
 mod block;
 mod blocks;
+mod counts;
 mod drops;
 pub mod laws;
 mod limits;
 mod map;
+mod not_put;
 mod pair;
 mod place;
 mod walk;
 
 pub use limits::BLOCK_PAIRS;
 pub use map::ByteMap;
+pub use not_put::NotPut;
 pub use walk::Walk;

@@ -1,13 +1,15 @@
 //! The map.
 
-ghost use Rattle.std.specs.Prelude.{◌≡◌, [], ◌∷◌, ◌++◌, length, T, option_map, OnOk, OnErr, IsOk, IfOk, ◌+◌, ◌<◌, ◌≤◌, ◌^◌, Some};
+ghost use Rattle.std.specs.Prelude.{◌≡◌, [], ◌∷◌, ◌++◌, length, T, option_map, OnOk, OnErr, IsOk, IsErrOf, IsTrue, IfOk, IfErr, ◌↔◌, ◌+◌, ◌<◌, ◌≤◌, ◌^◌, Some};
 ghost use Rattle.std.specs.FinMap.Entries.{find, put, is_sorted};
-ghost use Rattle.byte_map.specs.Blocks.{joined, before, rest, block_of, value_at, with_value, AllFilled, IsPlace};
-ghost use Rattle.byte_map.specs.Words.{bytes_cmp, bytes_in, first_of, next_in, without};
+ghost use Rattle.byte_map.specs.Blocks.{joined, before, rest, block_of, value_at, with_value, AllFilled, IsPlace, IsHeld, IsGap};
+ghost use Rattle.byte_map.specs.Words.{bytes_cmp, bytes_in, bytes_with, first_of, next_in, pairs_between, without};
 
 use crate::block::Block;
 use crate::blocks::{insert, pair_at, place_above, search, set_value};
+use crate::counts::count_between;
 use crate::drops::drop_range;
+use crate::not_put::NotPut;
 use crate::pair::Pair;
 use crate::place::Place;
 use crate::walk::Walk;
@@ -103,6 +105,15 @@ impl ByteMap {
         Walk::over(&self.blocks)
     }
 
+    /// How many pairs have a key from one on and below another. It searches twice, and counts whole blocks in between.
+    pub fn count_between(&self, from: &[u8], to: &[u8]) -> usize
+        ensures { result ≡ length (pairs_between from.now to.now self.now) }
+    {
+        // No count passes this one.
+        let _pairs = self.pairs;
+        count_between(&self.blocks, from, to)
+    }
+
     /// Gives a key a value, in place of the one before. A value as long as the one before takes no memory. Where there
     /// is no memory, or the pairs or their bytes would be 2^64 or more, the map stays as it was.
     pub fn put(&mut self, key: &[u8], value: &[u8]) -> Result<(), AllocError>
@@ -111,7 +122,37 @@ impl ByteMap {
         ensures in_place { option_map length (find bytes_cmp key.now self.old) ≡ Some (length value.now)
             → IsOk result }
     {
-        match search(&self.blocks, key) {
+        // No more bytes than a `u64` counts.
+        let _size = self.size;
+        match self.put_within(key, value, 0, u64::MAX) {
+            Ok(()) => Ok(()),
+            Err(_) => Err(AllocError),
+        }
+    }
+
+    /// Gives a key a value as `put` does, unless the map would then have more than `most` bytes, with `each` more for
+    /// each pair. It searches once, also where it refuses.
+    pub fn put_within(
+        &mut self,
+        key: &[u8],
+        value: &[u8],
+        each: u64,
+        most: u64,
+    ) -> Result<(), NotPut>
+        requires { bytes_with each self.old ≤ most }
+        ensures beyond { IsErrOf result NotPut.Beyond
+            ↔ (most < bytes_with each (put bytes_cmp key.now value.now self.old)) }
+        ensures ok { OnOk result (self.new ≡ put bytes_cmp key.now value.now self.old) }
+        ensures err { OnErr result (self.new ≡ self.old) }
+        ensures in_place { option_map length (find bytes_cmp key.now self.old) ≡ Some (length value.now)
+            → IsOk result }
+    {
+        let room = most - (each * self.pairs as u64 + self.size);
+        let spot = search(&self.blocks, key);
+        if !has_room(&self.blocks, spot, key, value, each, room) {
+            return Err(NotPut::Beyond);
+        }
+        match spot {
             Ok(place) => {
                 let size = change(&mut self.blocks, self.alloc, self.size, place, value)?;
                 self.size = size;
@@ -134,6 +175,38 @@ impl ByteMap {
         self.pairs -= dropped.count;
         self.size -= dropped.bytes;
     }
+}
+
+// Whether a pair at its place, with `each` bytes more where it is new, adds no more bytes than there is room for.
+fn has_room(
+    blocks: &[Block],
+    spot: Result<Place, Place>,
+    key: &[u8],
+    value: &[u8],
+    each: u64,
+    room: u64,
+) -> bool
+    requires held { IfOk spot (λ place. IsHeld blocks.now key.now place.block place.index) }
+    requires gap { IfErr spot (λ place. IsGap blocks.now key.now place.block place.index) }
+    requires sorted { T (is_sorted bytes_cmp (joined blocks.now)) }
+    requires fits { bytes_with each (joined blocks.now) + room < 2 ^ 64 }
+    ensures { IsTrue result ↔ (bytes_with each (put bytes_cmp key.now value.now (joined blocks.now))
+        ≤ bytes_with each (joined blocks.now) + room) }
+{
+    match spot {
+        Ok(place) => {
+            let replaced = blocks[place.block].at(place.index).value().len() as u64;
+            value.len() as u64 <= room + replaced
+        }
+        Err(_) => fits_in(room, each, key.len() as u64, value.len() as u64),
+    }
+}
+
+// Whether these three fit together.
+fn fits_in(room: u64, each: u64, key: u64, value: u64) -> bool
+    ensures { IsTrue result ↔ (each + (key + value) ≤ room) }
+{
+    each <= room && key <= room - each && value <= room - each - key
 }
 
 // Gives the pair at a place another value, and answers how many bytes there are then.

@@ -1,4 +1,5 @@
 // A run is stopped at each call of its disk, and each image that is left is mounted.
+use crate::images::{disk_for, fail_from};
 use crate::items::items_of;
 use crate::plain::Plain;
 use crate::rows::Run;
@@ -112,7 +113,7 @@ fn stopped(
     stop: u64,
 ) -> Result<(Ran, MemoryDisk), RowFault> {
     let mut disk = disk_of(alloc, image)?;
-    disk.fail_from(stop);
+    fail_from(&mut disk, stop);
     let ran = make_run(alloc, run, WHOLE, &mut disk)?;
     Ok((ran, disk))
 }
@@ -124,18 +125,14 @@ fn is_whole(alloc: Global, run: &Run, fronts: &[Vec<u8>], ran: &Ran) -> Result<b
     Ok(is_told && acknowledged(&ran.outcome) == calls)
 }
 
-/// Is a run as it is told, and does it survive a stop at each call of its disk? Each image that a crash then
-/// leaves holds a front of the calls that has all the acknowledged ones.
+/// Is a run as it is told over the image, which its settings change, and does it survive a stop at each call of its
+/// disk? Each image that a crash then leaves holds a front of the calls that has all the acknowledged ones.
 pub fn survives(alloc: Global, run: &Run, image: &[u8]) -> Result<bool, RowFault> {
     let fronts = fronts_of(alloc, &run.script, &run.reading)?;
     let reading = reading_of(alloc, run)?;
-    let image = if run.is_blank() {
-        b"".as_slice()
-    } else {
-        image
-    };
+    let before = disk_for(alloc, run, image)?;
     for stop in 1..MOST_STOPS {
-        let (ran, disk) = stopped(alloc, run, image, stop)?;
+        let (ran, disk) = stopped(alloc, run, before.image(), stop)?;
         let is_well = if ran.outcome.opened.is_some() {
             leaves_a_front(alloc, &reading, &fronts, &disk, &ran.outcome)?
         } else {

@@ -110,6 +110,11 @@ pub fn holds(run: &Run, left: &[u8]) -> bool {
     true
 }
 
+/// Makes each call of a disk fail, from this one on. It says nothing more, so that no caller reads the contract.
+pub fn fail_from(disk: &mut MemoryDisk, call: u64) {
+    disk.fail_from(call);
+}
+
 /// The disk of a run: the image that is left, as the run's settings change it.
 pub fn disk_for(alloc: Global, run: &Run, left: &[u8]) -> Result<MemoryDisk, RowFault> {
     let mut image = left.to_vec(alloc)?;
@@ -125,7 +130,7 @@ pub fn disk_for(alloc: Global, run: &Run, left: &[u8]) -> Result<MemoryDisk, Row
     }
     let call = run.fails_from(Outside::Disk);
     if call > 0 {
-        disk.fail_from(call);
+        fail_from(&mut disk, call);
     }
     Ok(disk)
 }

@@ -57,7 +57,7 @@ impl Run {
     pub fn fails_from(&self, outside: Outside) -> u64 {
         for setting in &self.settings {
             if let Setting::Fail(failing, call) = setting {
-                if *failing == outside {
+                if failing.is(outside) {
                     return *call;
                 }
             }

@@ -3,12 +3,28 @@ use row_files::{Asked, RowFault, push_bytes};
 use std::alloc::Global;
 
 /// A part of the outside that may fail.
-#[derive(Clone, Copy, PartialEq)]
+#[derive(Clone, Copy)]
 pub enum Outside {
     Disk,
     Source,
     Sink,
     Clock,
+}
+
+impl Outside {
+    fn number(self) -> u8 {
+        match self {
+            Outside::Disk => 0,
+            Outside::Source => 1,
+            Outside::Sink => 2,
+            Outside::Clock => 3,
+        }
+    }
+
+    /// Are both the same part?
+    pub fn is(self, other: Outside) -> bool {
+        self.number() == other.number()
+    }
 }
 
 /// One thing that is otherwise than a run finds it by itself.

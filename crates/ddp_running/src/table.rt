@@ -8,7 +8,7 @@ use crate::settings::Setting;
 use crate::tables::rows_of;
 use crate::told::is_as_told;
 use row_files::{RowFault, Tally};
-use std::alloc::Global;
+use std::alloc::{AllocError, Global};
 
 /// How a row is run, if its settings do not choose one way.
 const WAYS: [Way; 4] = [
@@ -66,8 +66,19 @@ fn passes(alloc: Global, row: &Row, image: &[u8]) -> Result<bool, RowFault> {
     Ok(true)
 }
 
+/// A block of memory that is larger than an image.
+const LARGE: u64 = 31_457_280;
+
+/// Takes a block of so many bytes, and gives it back. The C library then keeps smaller blocks that are given back for
+/// the next ones; else each copy of an image has all its pages from the system anew, which is most of a row's time.
+fn keep_blocks(alloc: Global, size: u64) -> Result<(), AllocError> {
+    let _block: Vec<u8> = Vec::with_capacity(alloc, size as usize)?;
+    Ok(())
+}
+
 /// Runs the rows of a table, and tells which ones differ and how many there are.
 pub fn run_table(alloc: Global, path: &str, file: &[u8]) -> Result<String, RowFault> {
+    keep_blocks(alloc, LARGE)?;
     let image = fresh(alloc)?;
     let mut tally = Tally::new(alloc);
     for row in &rows_of(alloc, file)? {

@@ -17,7 +17,8 @@ use Rattle.plain_volume.specs.declared.call.Reply.{Reply}
 use Rattle.plain_volume.specs.declared.call.Reply.TheVariants as reply
 use Rattle.plain_volume.specs.declared.call.Fault.{Fault}
 use Rattle.plain_volume.specs.declared.call.Fault.TheVariants as fault
-use Rattle.volume_files.specs.Wants.{is_late, reply_of, IsReplied}
+use Rattle.volume_tables.specs.Wants.{is_late, reply_of, IsReplied}
+use Rattle.volume_tables.proofs.Spared.{spared_same}
 use Rattle.cmdlet_line.specs.Lines.{Ask, Create, Write, Read, Fill, Length, Rename, Delete, Digest, Stat, Listing, Flush, Exit}
 use Rattle.meta_log.specs.Meta.{last_epoch}
 use Rattle.volume_inside.specs.Inside.{Inside}
@@ -27,18 +28,20 @@ use Rattle.volume_core.specs.Replies.{RepliesOrMemory}
 use Rattle.ddpsh.specs.States.{State, reply_in}
 use Rattle.ddpsh.specs.Listing.{listing}
 use Rattle.ddpsh.specs.Crashes.{Carries}
-use Rattle.ddpsh.specs.Script.{Item, Bare, Paid, Cut, Spoilt, with_payload, ends_well}
-use Rattle.ddpsh.specs.Answers.{Answer, Nothing, Accepted, Refused, Comes, Starts, Begun, OneCall, NoCall, OneBegun, said, said_fault, number, fault_text, text_of, is_accepted, is_exit}
+use Rattle.script_items.specs.Script.{Item, Bare, Paid, Cut, Spoilt, with_payload, ends_well}
+use Rattle.answer_text.specs.Answers.{Answer, Nothing, Accepted, Refused, said, said_fault, number, fault_text, text_of, is_accepted}
+use Rattle.ddpsh.specs.Answers.{Comes, Starts, Begun, OneCall, NoCall, OneBegun, is_exit}
 use Rattle.ddpsh.specs.Runs.{Made, acknowledges}
-use Rattle.ddpsh.specs.Saying.{IsSaid, plain_kind, exit_kind, kind_of}
+use Rattle.answer_text.specs.Saying.{IsSaid, plain_kind, exit_kind}
+use Rattle.ddpsh.specs.Saying.{kind_of}
 use Rattle.volume_core.specs.Bounds.{Adds}
 use Rattle.volume_core.specs.Volumes.{disk_of, view_now, stopped, IsKept, Endures}
 use Rattle.volume_core.specs.Wants.{wants_of, IsWant}
 use Rattle.ddpsh.specs.Served.{volume_state, IsStored, IsDurable, IsServed, IsBroken, ComesTo, StaysSame, IsSteady}
-use Rattle.ddpsh.specs.declared.answers.Answered.{Answered}
-use Rattle.ddpsh.specs.declared.answers.Answered.TheVariants as answered
-use Rattle.ddpsh.specs.declared.stops.SessionFault.{SessionFault}
-use Rattle.ddpsh.specs.declared.stops.SessionFault.TheVariants as stop
+use Rattle.answer_text.specs.declared.answers.Answered.{Answered}
+use Rattle.answer_text.specs.declared.answers.Answered.TheVariants as answered
+use Rattle.answer_text.specs.declared.stops.SessionFault.{SessionFault}
+use Rattle.answer_text.specs.declared.stops.SessionFault.TheVariants as stop
 use Rattle.volume_core.specs.declared.volume.Volume.{Volume as Engine}
 use Rattle.ddpsh.proofs.RunLaws.{made_none}
 use Rattle.ddpsh.proofs.CrashLaws.{carries_none, carries_idle, carries_call}
@@ -221,7 +224,7 @@ module _ {D : Type 0} {d : Ghosts D} where
 
   -- a file's length is asked for
   pub stat_moves : (v : Engine D d) (name : List ℕ) (given : Reply) → ((volume_state v).wears ≡ true → (volume_state v).epoch ≡ last_epoch) → Moves (call.Stat name) given (volume_state v) (volume_state v)
-  stat_moves v name given law = record { inside = sym (stat_inside (volume_state v).inside name given); clusters = refl; epoch = λ h. omega arith; wears = law }
+  stat_moves v name given law = record { inside = sym (stat_inside (volume_state v).inside name given); clusters = refl; reads = λ none. refl; spared = λ f is. spared_same (λ (s : State). s.epoch) f (volume_state v) (volume_state v) refl; stands = omega arith; epoch = λ h. omega arith; wears = law }
 
   made_one : (call : Call) (old new : Engine D d) (given : Reply) → Stepped call old new given → Made (volume_state old) (volume_state new) ((call, given) ∷ [])
   made_one call old new given did = record { legal = (did.step, tt); now = did.left; inside = did.moves.inside; clusters = did.moves.clusters }

@@ -12,8 +12,9 @@ use Rattle.plain_volume.specs.declared.call.Reply.TheVariants as reply
 use Rattle.plain_volume.specs.declared.call.Fault.TheVariants as fault
 use Rattle.hex.specs.Hex.{encode_lower}
 use Rattle.ddpsh.specs.States.{State}
-use Rattle.ddpsh.specs.Script.{Item, Bad, Bare, Paid, Cut, Spoilt, item_of}
-use Rattle.ddpsh.specs.Answers.{Answer, number, Accepted, Refused, Serves, Comes, said, fault_text, is_answered, is_exit}
+use Rattle.script_items.specs.Script.{Item, Bad, Bare, Paid, Cut, Spoilt, item_of}
+use Rattle.answer_text.specs.Answers.{Answer, number, Accepted, Refused, said, fault_text, is_answered}
+use Rattle.ddpsh.specs.Answers.{Serves, Comes, is_exit}
 use Rattle.ddpsh.specs.Clocks.{IsRead, KeepsSecond, FailsUnread, ReadsClock, AreRead, ReadsOften, MayCut, IsCutStatus}
 use Rattle.ddpsh.specs.Ends.{kind_counted, stop_end}
 use Rattle.ddpsh.specs.Outcomes.{status_of}
@@ -23,13 +24,13 @@ use Rattle.ddpsh.specs.Sessions.{let_go, acknowledge, is_over}
 use Rattle.ddpsh.specs.Steps.{DoesStep}
 use Rattle.volume_core.specs.Volumes.{stopped}
 use Rattle.ddpsh.specs.declared.acks.Ack.{Ack}
-use Rattle.ddpsh.specs.declared.answers.Answered.{Answered}
-use Rattle.ddpsh.specs.declared.answers.Answered.TheVariants as answered
+use Rattle.answer_text.specs.declared.answers.Answered.{Answered}
+use Rattle.answer_text.specs.declared.answers.Answered.TheVariants as answered
 use Rattle.ddpsh.specs.declared.ending.End.{End}
 use Rattle.ddpsh.specs.declared.ending.End.TheVariants as ends
 use Rattle.ddpsh.specs.declared.session.Session.{Session}
-use Rattle.ddpsh.specs.declared.stops.SessionFault.{SessionFault}
-use Rattle.ddpsh.specs.declared.stops.SessionFault.TheVariants as stop
+use Rattle.answer_text.specs.declared.stops.SessionFault.{SessionFault}
+use Rattle.answer_text.specs.declared.stops.SessionFault.TheVariants as stop
 use Rattle.ddpsh.proofs.LineOfLaws.{paid_fact, gives_as}
 use Rattle.ddpsh.proofs.StageLaws.{kind_counts}
 

@@ -14,7 +14,7 @@ use Rattle.ddpsh.specs.declared.commands.Command.{Command}
 use Rattle.ddpsh.specs.declared.commands.Command.TheVariants.{Mount, Format}
 use Rattle.ddpsh.specs.declared.ending.End.{End}
 use Rattle.ddpsh.specs.declared.ending.End.TheVariants as ends
-use Rattle.ddpsh.specs.declared.limits.TheConstants.{MOST_SCRIPT}
+use Rattle.script_items.specs.declared.limits.TheConstants.{MOST_SCRIPT}
 
 -- the statuses that tell of a fault do not come
 pub complete_by : (end : End) (refused : Bool) (status : ℕ) (s : List ℕ) → status ≡ status_of end refused

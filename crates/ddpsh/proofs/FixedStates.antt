@@ -1,5 +1,5 @@
--- A script and what is printed for it fix the states, but for what is wanting of an epoch.
-use Rattle.std.proofs.Common.{◌≡◌, ◌⊎◌, ◌+◌, ℕ, Bool, true, false, not, cond, nat_eq, nat_lt, ◌&&◌, List, [], ◌∷◌, ◌++◌, length, drop, replicate, codes, Option, Some, None, Result, Ok, inl, inr, ⊎_elim, refl, sym, ◌∙◌, ap, subst, arith, append_assoc}
+-- A script and what is printed for it fix the states, but for their epoch and what is wanting for one near the last.
+use Rattle.std.proofs.Common.{◌≡◌, ◌⊎◌, ◌+◌, ◌-◌, ℕ, Bool, true, false, not, cond, nat_eq, nat_lt, ◌&&◌, List, [], ◌∷◌, ◌++◌, length, drop, replicate, codes, Option, Some, None, Ok, inl, inr, ⊎_elim, refl, sym, ◌∙◌, ap, subst, arith, append_assoc}
 use Rattle.std.proofs.lemmas.List.{append_cancel_left}
 use Rattle.cmdlet_line.specs.Lines.{Ask, Silent, Create, Write, Read, Fill, Length, Rename, Delete, Digest, Stat, Listing, Flush, Exit}
 use Rattle.plain_volume.specs.Step.{Outcome, plain}
@@ -9,25 +9,26 @@ use Rattle.plain_volume.specs.declared.call.Reply.{Reply}
 use Rattle.plain_volume.specs.declared.call.Reply.TheVariants as reply
 use Rattle.plain_volume.specs.declared.call.Fault.{Fault}
 use Rattle.plain_volume.specs.declared.call.Fault.TheVariants as fault
-use Rattle.volume_inside.specs.Inside.{Inside}
-use Rattle.volume_inside.specs.InsideOf.{Reading, InsideOf}
-use Rattle.volume_inside.specs.Layout.{half_bytes}
+use Rattle.volume_inside.proofs.Insides.{inside_once}
+use Rattle.volume_inside.specs.Layout.{journal_at, half_bytes, data_clusters}
+use Rattle.meta_log.specs.Meta.{epoch_in}
 use Rattle.volume_inside.specs.Rules.{next_id_of}
-use Rattle.volume_inside.specs.declared.mount_fault.MountFault.{MountFault}
 use Rattle.volume_tables.specs.Mount.{read_meta}
 use Rattle.volume_tables.specs.Sizes.{tables_bytes}
+use Rattle.volume_tables.specs.Wants.{Needs, reply_of, last_id}
 use Rattle.volume_files.specs.Lengths.{for_file, length_of}
 use Rattle.volume_files.specs.Needs.{create_needs, rename_needs, delete_needs, write_needs, length_needs}
-use Rattle.volume_files.specs.Wants.{Needs, reply_of, last_id}
 use Rattle.volume_core.specs.Moves.{Moves, inside_after}
-use Rattle.volume_core.specs.States.{volume_in, wants_in, wanting_in, write_wants_in, file_in, left_in, tables_told}
+use Rattle.volume_core.specs.States.{volume_in, wants_in, wants_but_epochs, wanting_in, write_wants_in, file_in, left_in, tables_told, finds_room, IsStateOf}
 use Rattle.hex.specs.Hex.{encode_lower}
 use Rattle.ddpsh.specs.States.{State, reply_in}
-use Rattle.ddpsh.specs.Script.{Item, Bad, Bare, Paid, Cut, Spoilt, BeginsWith, behind_item}
-use Rattle.ddpsh.specs.Answers.{Answer, number, Nothing, Accepted, Refused, OneCall, NoCall, Lists, Serves, Comes, said, said_fault, fault_text, refusal_text, text_of}
+use Rattle.script_items.specs.Script.{Item, Bad, Bare, Paid, Cut, Spoilt, BeginsWith, behind_item}
+use Rattle.answer_text.specs.Answers.{Answer, number, Nothing, Accepted, Refused, said, said_fault, fault_text, refusal_text, text_of}
+use Rattle.ddpsh.specs.Answers.{OneCall, NoCall, Lists, Serves, Comes}
 use Rattle.ddpsh.specs.Runs.{Entry, items_of, output_of, AreAnswered}
-use Rattle.ddpsh.specs.Laws.{AreAlike, StayAlike, OutputsFixStates}
+use Rattle.ddpsh.specs.Laws.{AreAlike, AreFixed, StayAlike, OutputsFixStates}
 use Rattle.ddpsh.proofs.CallLaws.{reply_cases, reply_unwanting}
+use Rattle.ddpsh.proofs.EpochLaws.{IsFresh, fresh_start, fresh_more, none_wears, wants_fresh}
 
 -- ---- what is wanting in two states of one inside
 
@@ -216,11 +217,25 @@ module _ (v : State) (epoch : ℕ) (wears : Bool) (room : Needs → Bool) where
 
 -- ---- all lines
 
-entries_fixed : (es others : List Entry) (v w : State) (script rest left more less : List ℕ) → AreAlike v w → BeginsWith (items_of es) script rest → BeginsWith (items_of others) script left
-    → AreAnswered v es → AreAnswered w others → output_of es ++ more ≡ output_of others ++ less → StayAlike es others
-entries_fixed [] others v w script rest left more less alike h k a b text = tt
-entries_fixed (e ∷ es) [] v w script rest left more less alike h k a b text = tt
-entries_fixed (e ∷ es) (f ∷ others) v w script rest left more less alike h k a b text =
+-- what two states of one inside have in common after so many lines
+are_fixed : (opened lines : ℕ) (s t : State) → AreAlike s t → IsFresh opened lines s → IsFresh opened lines t
+    → AreFixed opened lines s t
+are_fixed opened lines s t alike one other = record {
+  alike = alike;
+  one = one.0;
+  other = other.0;
+  fresh = λ far. (none_wears opened lines s one far, none_wears opened lines t other far);
+  wants = λ far c. wants_fresh s (none_wears opened lines s one far) c
+      ∙ ((λ i. wants_but_epochs (alike.1 i) (alike.0 i) c)
+      ∙ sym (wants_fresh t (none_wears opened lines t other far) c));
+}
+
+entries_fixed : (es others : List Entry) (v w : State) (opened lines : ℕ) (script rest left more less : List ℕ) → AreAlike v w
+    → IsFresh opened lines v → IsFresh opened lines w → BeginsWith (items_of es) script rest → BeginsWith (items_of others) script left
+    → AreAnswered v es → AreAnswered w others → output_of es ++ more ≡ output_of others ++ less → StayAlike opened lines es others
+entries_fixed [] others v w opened lines script rest left more less alike one two h k a b text = tt
+entries_fixed (e ∷ es) [] v w opened lines script rest left more less alike one two h k a b text = tt
+entries_fixed (e ∷ es) (f ∷ others) v w opened lines script rest left more less alike one two h k a b text =
     let item : f.item ≡ e.item = k.1 ∙ sym h.1 in
     let same : w ≡ other_epoch v w.epoch w.wears w.has_room = alike_is v w alike in
     let first : Comes e.item (other_epoch v w.epoch w.wears w.has_room) f.calls f.answer f.after =
@@ -231,15 +246,35 @@ entries_fixed (e ∷ es) (f ∷ others) v w script rest left more less alike h k
     let behind : output_of es ++ more ≡ output_of others ++ less =
     append_cancel_left (text_of f.answer) (output_of es ++ more) (output_of others ++ less)
     (ap (λ c. text_of c ++ (output_of es ++ more)) (sym fixed.0) ∙ texts) in
-    (fixed.1, entries_fixed es others e.after f.after (behind_item script) rest left more less fixed.1 h.2 k.2 a.1 b.1 behind)
+    let here : IsFresh opened (lines + 1) e.after = fresh_more opened lines e v a.0 one in
+    let there : IsFresh opened (lines + 1) f.after = fresh_more opened lines f w b.0 two in (
+      are_fixed opened (lines + 1) e.after f.after fixed.1 here there,
+      entries_fixed es others e.after f.after opened (lines + 1) (behind_item script) rest left more less fixed.1 here there h.2 k.2 a.1 b.1 behind,
+    )
 
-abbrev HasOneInside : Type 0
-HasOneInside = (read : Reading) (image : List ℕ) (one two : Result Inside MountFault)
-    → InsideOf read image one → InsideOf read image two → one ≡ two
+-- ---- the first state
 
-pub states_fixed : HasOneInside → OutputsFixStates
-states_fixed once image opening start script es others rest left now later more less one two served other text =
-    let same : Ok opening.inside ≡ Ok start.inside = once read_meta image (Ok opening.inside) (Ok start.inside) one.inside two.inside in
-    let inside : opening.inside ≡ start.inside = cc in
-    let clusters : opening.clusters ≡ start.clusters = omega (arith, one.clusters, two.clusters) in
-    ((inside, clusters), entries_fixed es others opening start script rest left more less (inside, clusters) served.items other.items served.answers other.answers text)
+-- an image has one state
+one_state : (image : List ℕ) (s t : State) → IsStateOf image s → IsStateOf image t → s ≡ t
+one_state image s t one two =
+    let same : Ok s.inside ≡ Ok t.inside = inside_once read_meta image (Ok s.inside) (Ok t.inside) one.inside two.inside in
+    let inside : s.inside ≡ t.inside = cc in
+    let clusters : s.clusters ≡ t.clusters = omega (arith, one.clusters, two.clusters) in
+    let epoch : s.epoch ≡ t.epoch =
+    one.epoch ∙ (ap (λ (n : ℕ). epoch_in journal_at (half_bytes n) image) clusters ∙ sym two.epoch) in
+    let left : left_in s ≡ left_in t = λ i. data_clusters (clusters i) - length ((inside i).blocks) in
+    let wears : s.wears ≡ t.wears = one.settled.wears ∙ sym two.settled.wears in
+    let room : (n : Needs) → s.has_room n ≡ t.has_room n =
+    λ n. one.settled.room n ∙ (ap (λ (k : ℕ). finds_room k n) left ∙ sym (two.settled.room n)) in
+    λ i. record { clusters = clusters i; inside = inside i; epoch = epoch i; wears = wears i; has_room = λ n. room n i }
+
+pub states_fixed : OutputsFixStates
+states_fixed image opening start script es others rest left now later more less one two served other text =
+    let same : opening ≡ start = one_state image opening start one two in
+    let there : IsFresh opening.epoch 0 start =
+    subst (λ (n : ℕ). IsFresh n 0 start) (sym (ap (λ (s : State). s.epoch) same)) (fresh_start image start two) in (
+      same,
+      entries_fixed es others opening start opening.epoch 0 script rest left more less
+          (ap (λ (s : State). s.inside) same, ap (λ (s : State). s.clusters) same) (fresh_start image opening one) there
+          served.items other.items served.answers other.answers text,
+    )

@@ -1,8 +1,3 @@
-pub mod InputLaws
-pub mod LineLaws
-pub mod PayloadLaws
-pub mod ItemLaws
-pub mod PutLaws
 pub mod CommandLaws
 pub mod RunLaws
 pub mod BoundLaws
@@ -13,6 +8,7 @@ pub mod LineOfLaws
 pub mod StageLaws
 pub mod ClockLaws
 pub mod OneOutput
+pub mod EpochLaws
 pub mod FixedStates
 pub mod TopLaws
 pub mod CompleteLaws

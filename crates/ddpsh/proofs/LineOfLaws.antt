@@ -11,11 +11,13 @@ use Rattle.cmdlet_line.specs.declared.lines.Line.{Line}
 use Rattle.cmdlet_line.specs.declared.lines.LineFault.{LineFault}
 use Rattle.cmdlet_line.specs.Lines.{Ask, Refusal, Gives, ask_of, Silent, Create, Write, Read, Fill, Length, Rename, Delete, Digest, Stat, Listing, Flush, Exit}
 use Rattle.ddpsh.specs.States.{State}
-use Rattle.ddpsh.specs.Script.{Item, Paid, Cut, Spoilt, item_of, ends_well}
-use Rattle.ddpsh.specs.Answers.{Answer, Nothing, Accepted, Refused, Comes, Starts, fault_text, is_accepted, is_durable, is_exit}
+use Rattle.script_items.specs.Script.{Item, Paid, Cut, Spoilt, item_of, ends_well}
+use Rattle.answer_text.specs.Answers.{Answer, Nothing, Accepted, Refused, fault_text, is_accepted}
+use Rattle.ddpsh.specs.Answers.{Comes, Starts, is_durable, is_exit}
 use Rattle.ddpsh.specs.Runs.{Made, acknowledges}
-use Rattle.ddpsh.specs.Saying.{exit_kind, is_ok, asks_flush, is_flushed, ended_by}
-use Rattle.ddpsh.specs.Told.{IsPut, IsPutInPart}
+use Rattle.answer_text.specs.Saying.{exit_kind, is_ok}
+use Rattle.ddpsh.specs.Saying.{asks_flush, is_flushed, ended_by}
+use Rattle.answer_text.specs.Told.{IsPut, IsPutInPart}
 use Rattle.volume_core.specs.Volumes.{disk_of}
 use Rattle.ddpsh.specs.Crashes.{Carries}
 use Rattle.ddpsh.specs.Served.{asked_as, volume_state, IsDurable}
@@ -23,11 +25,11 @@ use Rattle.ddpsh.specs.Sessions.{state_of, ack_now, acks_if, counted_on, let_go,
 use Rattle.ddpsh.specs.Acks.{ack_list}
 use Rattle.ddpsh.specs.Steps.{acks_when, session_end, EndsOver, DoesStep, DoesEndStep}
 use Rattle.ddpsh.specs.declared.acks.Ack.{Ack}
-use Rattle.ddpsh.specs.declared.answers.Answered.{Answered}
-use Rattle.ddpsh.specs.declared.answers.Answered.TheVariants as answered
+use Rattle.answer_text.specs.declared.answers.Answered.{Answered}
+use Rattle.answer_text.specs.declared.answers.Answered.TheVariants as answered
 use Rattle.ddpsh.specs.declared.ending.End.{End}
-use Rattle.ddpsh.specs.declared.stops.SessionFault.{SessionFault}
-use Rattle.ddpsh.specs.declared.stops.SessionFault.TheVariants as stop
+use Rattle.answer_text.specs.declared.stops.SessionFault.{SessionFault}
+use Rattle.answer_text.specs.declared.stops.SessionFault.TheVariants as stop
 use Rattle.volume_core.specs.declared.volume.Volume.{Volume as Engine}
 use Rattle.ddpsh.specs.declared.session.Session.{Session}
 use Rattle.ddpsh.proofs.RunLaws.{made_none}

@@ -19,18 +19,19 @@ use Rattle.plain_volume.specs.declared.call.Fault.{Fault}
 use Rattle.plain_volume.specs.declared.call.Fault.TheVariants as fault
 use Rattle.vdisk.specs.declared.disk.Disk.{Ghosts}
 use Rattle.cmdlet_line.specs.Lines.{Listing}
-use Rattle.ddpsh.specs.Listing.{listing, file_line, file_lines}
+use Rattle.ddpsh.specs.Listing.{listing}
+use Rattle.answer_text.specs.Answers.{file_line, file_lines, Accepted, number, text_of}
 use Rattle.volume_core.specs.Replies.{length_reply, name_reply}
-use Rattle.ddpsh.specs.Script.{Bare}
-use Rattle.ddpsh.specs.Answers.{Accepted, LacksMemory, number, text_of}
+use Rattle.script_items.specs.Script.{Bare}
+use Rattle.ddpsh.specs.Answers.{LacksMemory}
 use Rattle.ddpsh.specs.Runs.{insides_after}
 use Rattle.volume_inside.specs.Inside.{Inside}
 use Rattle.volume_core.specs.Moves.{inside_after}
-use Rattle.ddpsh.specs.Saying.{IsSaid}
+use Rattle.answer_text.specs.Saying.{IsSaid}
 use Rattle.volume_core.specs.Volumes.{view_now}
 use Rattle.ddpsh.specs.Served.{volume_state, IsBroken, ComesTo}
-use Rattle.ddpsh.specs.declared.answers.Answered.{Answered}
-use Rattle.ddpsh.specs.declared.stops.SessionFault.{SessionFault}
+use Rattle.answer_text.specs.declared.answers.Answered.{Answered}
+use Rattle.answer_text.specs.declared.stops.SessionFault.{SessionFault}
 use Rattle.volume_core.specs.declared.volume.Volume.{Volume as Engine}
 use Rattle.ddpsh.proofs.CrashLaws.{carries_idle}
 use Rattle.ddpsh.proofs.CallLaws.{stat_after}

@@ -5,8 +5,9 @@ use Rattle.plain_volume.specs.declared.call.Call.TheVariants as call
 use Rattle.plain_volume.specs.declared.call.Reply.{Reply}
 use Rattle.cmdlet_line.specs.Lines.{Ask, Silent, Create, Write, Read, Fill, Length, Rename, Delete, Digest, Stat, Listing, Flush, Exit}
 use Rattle.ddpsh.specs.States.{State}
-use Rattle.ddpsh.specs.Script.{Item, Bad, Bare, Paid, Cut, Spoilt, BeginsWith, behind_item}
-use Rattle.ddpsh.specs.Answers.{Answer, Nothing, Refused, refusal_text, text_of, OneCall, NoCall, Lists, Unmounts, Serves, Comes}
+use Rattle.script_items.specs.Script.{Item, Bad, Bare, Paid, Cut, Spoilt, BeginsWith, behind_item}
+use Rattle.answer_text.specs.Answers.{Answer, Nothing, Refused, refusal_text, text_of}
+use Rattle.ddpsh.specs.Answers.{OneCall, NoCall, Lists, Unmounts, Serves, Comes}
 use Rattle.ddpsh.specs.Runs.{Entry, items_of, output_of, AreAnswered}
 use Rattle.ddpsh.specs.Laws.{ItemsHaveOneAnswer, ScriptsHaveOneOutput, WantAlike}
 

@@ -9,8 +9,9 @@ use Rattle.volume_inside.specs.Inside.{Inside}
 use Rattle.volume_core.specs.States.{volume_in}
 use Rattle.volume_core.specs.Moves.{inside_after}
 use Rattle.ddpsh.specs.States.{State}
-use Rattle.ddpsh.specs.Script.{first_item, behind_item, BeginsWith}
-use Rattle.ddpsh.specs.Answers.{Answer, text_of, is_refused, is_answered, Comes}
+use Rattle.script_items.specs.Script.{first_item, behind_item, BeginsWith}
+use Rattle.answer_text.specs.Answers.{Answer, text_of, is_refused, is_answered}
+use Rattle.ddpsh.specs.Answers.{Comes}
 use Rattle.ddpsh.specs.Runs.{Entry, items_of, calls_of, output_of, AreAnswered, left_by, some_refused, answered_lines, acknowledges, acknowledged, one_if, lets_go, StayOpen, insides_after, Made, Served}
 
 pub replays : (v : Volume) (first second : List (Call × Reply)) → replay v (first ++ second) ≡ replay (replay v first) second

@@ -8,14 +8,16 @@ use Rattle.plain_volume.specs.declared.call.Call.{Call}
 use Rattle.plain_volume.specs.declared.call.Reply.{Reply}
 use Rattle.cmdlet_line.specs.Lines.{Exit}
 use Rattle.ddpsh.specs.States.{State}
-use Rattle.ddpsh.specs.Script.{Item, Bare, first_item, behind_item}
-use Rattle.ddpsh.specs.Answers.{Answer, Nothing, Accepted, Refused, text_of, is_refused, is_answered, is_accepted, is_exit, Comes}
+use Rattle.script_items.specs.Script.{Item, Bare, first_item, behind_item}
+use Rattle.answer_text.specs.Answers.{Answer, Nothing, Accepted, Refused, text_of, is_refused, is_answered, is_accepted}
+use Rattle.ddpsh.specs.Answers.{is_exit, Comes}
 use Rattle.ddpsh.specs.Runs.{Entry, Made, lets_go, calls_of, output_of, some_refused, acknowledges, acknowledged, one_if}
 use Rattle.ddpsh.specs.Ends.{Ends, AnsweredSo, HasLetGo, StaysOpenUntil, stop_end, fault_end, kind_refused, kind_counted}
-use Rattle.ddpsh.specs.Saying.{kind_of, exit_kind}
-use Rattle.ddpsh.specs.Input.{ahead, taken, IsLeft}
-use Rattle.ddpsh.specs.Reading.{IsItem, is_some_byte}
-use Rattle.ddpsh.specs.Told.{IsPut}
+use Rattle.ddpsh.specs.Saying.{kind_of}
+use Rattle.answer_text.specs.Saying.{exit_kind}
+use Rattle.script_items.specs.Input.{ahead, taken, IsLeft}
+use Rattle.script_items.specs.Reading.{IsItem, is_some_byte}
+use Rattle.answer_text.specs.Told.{IsPut}
 use Rattle.volume_core.specs.Volumes.{disk_of, view_now, stopped, IsKept}
 use Rattle.ddpsh.specs.Bounds.{IsFresh, WantsAreSpent}
 use Rattle.ddpsh.specs.Served.{IsDurable, IsStored}
@@ -23,21 +25,21 @@ use Rattle.ddpsh.specs.Crashes.{LastsFrom, Carries}
 use Rattle.ddpsh.specs.Sessions.{state_of, ack_now, counted_on, is_last, LineEnds}
 use Rattle.ddpsh.specs.Steps.{acks_when, EndsOver, DoesStep, DoesEndStep, Spending, Keeping, Stage, SessionRun}
 use Rattle.ddpsh.specs.declared.acks.Ack.{Ack}
-use Rattle.ddpsh.specs.declared.input.Input.{Input}
-use Rattle.ddpsh.specs.declared.input.ScriptFault.{ScriptFault}
-use Rattle.ddpsh.specs.declared.input.ScriptFault.TheVariants as fault
+use Rattle.script_items.specs.declared.input.Input.{Input}
+use Rattle.script_items.specs.declared.input.ScriptFault.{ScriptFault}
+use Rattle.script_items.specs.declared.input.ScriptFault.TheVariants as fault
 use Rattle.ddpsh.specs.declared.ending.End.{End}
 use Rattle.ddpsh.specs.declared.ending.End.TheVariants as ends
-use Rattle.ddpsh.specs.declared.answers.Answered.{Answered}
-use Rattle.ddpsh.specs.declared.answers.Answered.TheVariants as answered
-use Rattle.ddpsh.specs.declared.stops.SessionFault.{SessionFault}
-use Rattle.ddpsh.specs.declared.stops.SessionFault.TheVariants as stop
+use Rattle.answer_text.specs.declared.answers.Answered.{Answered}
+use Rattle.answer_text.specs.declared.answers.Answered.TheVariants as answered
+use Rattle.answer_text.specs.declared.stops.SessionFault.{SessionFault}
+use Rattle.answer_text.specs.declared.stops.SessionFault.TheVariants as stop
 use Rattle.ddpsh.specs.declared.session.Session.{Session}
 use Rattle.ddpsh.proofs.RunLaws.{served_start, made_none, made_then, one_more, calls_more, output_more, refused_more, counts_more, acks_more, open_more}
 use Rattle.ddpsh.proofs.BoundLaws.{spending_start, spending_more}
 use Rattle.ddpsh.proofs.CrashLaws.{lasts_start, lasts_more, keeping_more, lasts_acked, keeping_acked}
 use Rattle.ddpsh.proofs.CallLaws.{starts_none}
-use Rattle.ddpsh.proofs.PutLaws.{put_none, put_then}
+use Rattle.answer_text.proofs.PutLaws.{put_none, put_then}
 
 nonempty : (s : List ℕ) → true ≡ is_some_byte s → 0 < length s
 nonempty [] h = cc

@@ -18,7 +18,7 @@ use Rattle.ddpsh.specs.Served.{volume_state, IsStored}
 use Rattle.ddpsh.specs.Sessions.{state_of}
 use Rattle.ddpsh.specs.Steps.{SessionRun}
 use Rattle.ddpsh.specs.Ends.{RunOf, HasLetGo}
-use Rattle.ddpsh.specs.Told.{IsPrinted}
+use Rattle.answer_text.specs.Told.{IsPrinted}
 use Rattle.ddpsh.specs.Outcomes.{last_line, status_of}
 use Rattle.ddpsh.specs.Whole.{IsServedRun, IsOpenedRun, IsRun}
 use Rattle.ddpsh.specs.declared.acks.Ack.{Ack}

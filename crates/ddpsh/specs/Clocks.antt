@@ -3,11 +3,11 @@ use Rattle.std.specs.Prelude.{◌≡◌, ◌⊎◌, ◌+◌, ◌++◌, ℕ, List
 use Rattle.vdisk.specs.Streams.{Answers}
 use Rattle.vdisk.specs.declared.disk.Failed.{Failed}
 use Rattle.cmdlet_line.specs.Lines.{Ask, Silent, Refusal}
-use Rattle.ddpsh.specs.declared.answers.Answered.{Answered}
+use Rattle.answer_text.specs.declared.answers.Answered.{Answered}
 use Rattle.ddpsh.specs.declared.ending.End.{End}
 use Rattle.ddpsh.specs.declared.ending.End.TheVariants as ends
-use Rattle.ddpsh.specs.declared.stops.SessionFault.{SessionFault}
-use Rattle.ddpsh.specs.declared.stops.SessionFault.TheVariants as stop
+use Rattle.answer_text.specs.declared.stops.SessionFault.{SessionFault}
+use Rattle.answer_text.specs.declared.stops.SessionFault.TheVariants as stop
 
 -- a line that asks nothing reads no clock; each other one reads it once
 abbrev pub IsRead : Result Ask Refusal → Option (List ℕ) → Option (List ℕ) → Result ℕ Failed → Type 0

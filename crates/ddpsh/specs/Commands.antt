@@ -1,6 +1,6 @@
 -- The words of the command.
 use Rattle.std.specs.Prelude.{◌≡◌, ◌≤◌, ℕ, List, [], ◌∷◌, codes, decimal}
-use Rattle.ddpsh.specs.Answers.{ended}
+use Rattle.answer_text.specs.Answers.{ended}
 use Rattle.ddpsh.specs.declared.limits.TheConstants.{FEWEST_CLUSTERS, MOST_CLUSTERS}
 use Rattle.ddpsh.specs.declared.commands.Command.{Command}
 use Rattle.ddpsh.specs.declared.commands.Command.TheVariants.{Mount, Format}

@@ -5,7 +5,7 @@ use Rattle.vdisk.specs.Causes.{Rose}
 use Rattle.volume_inside.specs.Inside.{Inside}
 use Rattle.volume_inside.specs.InsideOf.{InsideOf}
 use Rattle.volume_tables.specs.Mount.{read_meta}
-use Rattle.ddpsh.specs.declared.limits.TheConstants.{MOST_SCRIPT}
+use Rattle.script_items.specs.declared.limits.TheConstants.{MOST_SCRIPT}
 use Rattle.ddpsh.specs.declared.commands.Command.{Command}
 use Rattle.ddpsh.specs.declared.commands.Command.TheVariants.{Mount, Format}
 

@@ -4,16 +4,17 @@ use Rattle.plain_volume.specs.declared.call.Call.{Call}
 use Rattle.plain_volume.specs.declared.call.Call.TheVariants as call
 use Rattle.plain_volume.specs.declared.call.Reply.{Reply}
 use Rattle.ddpsh.specs.States.{State, reply_in}
-use Rattle.ddpsh.specs.Script.{Item, first_item}
-use Rattle.ddpsh.specs.Answers.{Answer, text_of, said, is_accepted, is_refused, is_exit, Comes, Starts}
+use Rattle.script_items.specs.Script.{Item, first_item}
+use Rattle.answer_text.specs.Answers.{Answer, text_of, said, is_accepted, is_refused}
+use Rattle.ddpsh.specs.Answers.{is_exit, Comes, Starts}
 use Rattle.ddpsh.specs.Runs.{Entry, Made, Served, StayOpen, lets_go, calls_of, output_of, some_refused, answered_lines, acknowledged, one_if}
-use Rattle.ddpsh.specs.Told.{IsPut, IsPutInPart}
-use Rattle.ddpsh.specs.declared.input.ScriptFault.{ScriptFault}
-use Rattle.ddpsh.specs.declared.input.ScriptFault.TheVariants as fault
-use Rattle.ddpsh.specs.declared.answers.Answered.{Answered}
-use Rattle.ddpsh.specs.declared.answers.Answered.TheVariants as answered
-use Rattle.ddpsh.specs.declared.stops.SessionFault.{SessionFault}
-use Rattle.ddpsh.specs.declared.stops.SessionFault.TheVariants as stop
+use Rattle.answer_text.specs.Told.{IsPut, IsPutInPart}
+use Rattle.script_items.specs.declared.input.ScriptFault.{ScriptFault}
+use Rattle.script_items.specs.declared.input.ScriptFault.TheVariants as fault
+use Rattle.answer_text.specs.declared.answers.Answered.{Answered}
+use Rattle.answer_text.specs.declared.answers.Answered.TheVariants as answered
+use Rattle.answer_text.specs.declared.stops.SessionFault.{SessionFault}
+use Rattle.answer_text.specs.declared.stops.SessionFault.TheVariants as stop
 use Rattle.ddpsh.specs.declared.ending.End.{End}
 use Rattle.ddpsh.specs.declared.ending.End.TheVariants as ends
 use Rattle.ddpsh.specs.declared.ending.Ran.{Ran}

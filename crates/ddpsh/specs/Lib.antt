@@ -1,11 +1,7 @@
 pub mod Acks
-pub mod Input
-pub mod Script
-pub mod Reading
 pub mod States
 pub mod Answers
 pub mod Runs
-pub mod Told
 pub mod Saying
 pub mod Listing
 pub mod Bounds

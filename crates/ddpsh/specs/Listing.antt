@@ -1,5 +1,5 @@
 -- The files of a volume, one after the other.
-use Rattle.std.specs.Prelude.{ℕ, List, [], ◌∷◌, ◌++◌, length, Option, Some, None, decimal}
+use Rattle.std.specs.Prelude.{ℕ, List, [], ◌∷◌, length, Option, Some, None}
 use Rattle.plain_volume.specs.Volume.{Volume}
 use Rattle.plain_volume.specs.declared.call.Call.{Call}
 use Rattle.plain_volume.specs.declared.call.Call.TheVariants as call
@@ -12,11 +12,3 @@ abbrev pub listing : Option (List ℕ) → Volume → List (Call × Reply)
 listing above [] = (call.Next above, reply.Name None) ∷ []
 listing above (f ∷ files) =
     (call.Next above, reply.Name (Some f.0)) ∷ (call.Stat f.0, reply.Length (length f.1)) ∷ listing (Some f.0) files
-
--- a file's line, with the newline in front of it: its length and its name
-abbrev pub file_line : ℕ → List ℕ → List ℕ
-file_line size name = 10 ∷ (decimal size ++ 32 ∷ name)
-
-abbrev pub file_lines : Volume → List ℕ
-file_lines [] = []
-file_lines (f ∷ files) = file_line (length f.1) f.0 ++ file_lines files

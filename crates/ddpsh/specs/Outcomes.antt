@@ -2,7 +2,7 @@
 use Rattle.std.specs.Prelude.{◌++◌, ℕ, Bool, cond, List, [], codes}
 use Rattle.volume_inside.specs.declared.mount_fault.MountFault.{MountFault}
 use Rattle.volume_inside.specs.declared.mount_fault.MountFault.TheVariants as mount
-use Rattle.ddpsh.specs.Answers.{Refused, text_of, ended, number}
+use Rattle.answer_text.specs.Answers.{Refused, text_of, ended, number}
 use Rattle.ddpsh.specs.declared.ending.End.{End}
 use Rattle.ddpsh.specs.declared.ending.End.TheVariants as ends
 

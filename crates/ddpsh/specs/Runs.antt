@@ -8,8 +8,9 @@ use Rattle.volume_inside.specs.Inside.{Inside}
 use Rattle.volume_core.specs.States.{volume_in}
 use Rattle.volume_core.specs.Moves.{inside_after}
 use Rattle.ddpsh.specs.States.{State}
-use Rattle.ddpsh.specs.Script.{Item, BeginsWith}
-use Rattle.ddpsh.specs.Answers.{Answer, text_of, is_refused, is_answered, is_accepted, is_durable, is_exit, Comes}
+use Rattle.script_items.specs.Script.{Item, BeginsWith}
+use Rattle.answer_text.specs.Answers.{Answer, text_of, is_refused, is_answered, is_accepted}
+use Rattle.ddpsh.specs.Answers.{is_durable, is_exit, Comes}
 
 -- an item that was answered: its calls with their replies, and its answer
 pub record Entry : Type 0 where

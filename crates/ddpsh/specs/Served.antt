@@ -12,15 +12,16 @@ use Rattle.volume_core.specs.Volumes.{device_of, disk_of, view_now, stopped, IsK
 use Rattle.volume_core.specs.States as states
 use Rattle.volume_core.specs.States.{IsStateOf}
 use Rattle.ddpsh.specs.Crashes.{Carries}
-use Rattle.ddpsh.specs.Script.{Item}
-use Rattle.ddpsh.specs.Answers.{Answer, text_of, Comes, Starts}
+use Rattle.script_items.specs.Script.{Item}
+use Rattle.answer_text.specs.Answers.{Answer, text_of}
+use Rattle.ddpsh.specs.Answers.{Comes, Starts}
 use Rattle.ddpsh.specs.Runs.{Made, acknowledges}
 use Rattle.ddpsh.specs.Saying.{kind_of}
 use Rattle.ddpsh.specs.declared.limits.TheConstants.{MOST_CALLS_OF_A_LINE}
-use Rattle.ddpsh.specs.declared.answers.Answered.{Answered}
+use Rattle.answer_text.specs.declared.answers.Answered.{Answered}
 use Rattle.ddpsh.specs.declared.calls.Attempt.{Attempt}
-use Rattle.ddpsh.specs.declared.stops.SessionFault.{SessionFault}
-use Rattle.ddpsh.specs.declared.stops.SessionFault.TheVariants as stop
+use Rattle.answer_text.specs.declared.stops.SessionFault.{SessionFault}
+use Rattle.answer_text.specs.declared.stops.SessionFault.TheVariants as stop
 use Rattle.volume_core.specs.declared.volume.Volume.{Volume as Engine}
 
 -- what the code read from a line, without where it lies in memory

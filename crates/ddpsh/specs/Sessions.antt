@@ -8,17 +8,18 @@ use Rattle.ddpsh.specs.States.{State, reply_in}
 use Rattle.volume_core.specs.Volumes.{disk_of, stopped}
 use Rattle.ddpsh.specs.Served.{volume_state, ComesTo, IsDurable}
 use Rattle.ddpsh.specs.Crashes.{Carries}
-use Rattle.ddpsh.specs.Script.{Item}
-use Rattle.ddpsh.specs.Answers.{Answer, text_of, said, is_accepted, is_refused, is_exit, Comes, Starts}
+use Rattle.script_items.specs.Script.{Item}
+use Rattle.answer_text.specs.Answers.{Answer, text_of, said, is_accepted, is_refused}
+use Rattle.ddpsh.specs.Answers.{is_exit, Comes, Starts}
 use Rattle.ddpsh.specs.Runs.{Made, acknowledges}
 use Rattle.ddpsh.specs.Saying.{kind_of}
-use Rattle.ddpsh.specs.Told.{IsPut, IsPutInPart}
+use Rattle.answer_text.specs.Told.{IsPut, IsPutInPart}
 use Rattle.ddpsh.specs.declared.limits.TheConstants.{MOST_CALLS_OF_A_LINE}
 use Rattle.ddpsh.specs.declared.acks.Ack.{Ack}
-use Rattle.ddpsh.specs.declared.answers.Answered.{Answered}
-use Rattle.ddpsh.specs.declared.answers.Answered.TheVariants as answered
-use Rattle.ddpsh.specs.declared.stops.SessionFault.{SessionFault}
-use Rattle.ddpsh.specs.declared.stops.SessionFault.TheVariants as stop
+use Rattle.answer_text.specs.declared.answers.Answered.{Answered}
+use Rattle.answer_text.specs.declared.answers.Answered.TheVariants as answered
+use Rattle.answer_text.specs.declared.stops.SessionFault.{SessionFault}
+use Rattle.answer_text.specs.declared.stops.SessionFault.TheVariants as stop
 use Rattle.ddpsh.specs.declared.session.Session.{Session}
 
 -- a letter and a colon

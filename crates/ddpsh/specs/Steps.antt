@@ -12,20 +12,20 @@ use Rattle.volume_core.specs.Volumes.{disk_of, view_now, clusters_in, IsKept}
 use Rattle.ddpsh.specs.Bounds.{touched_by_all, Bounded, IsFresh}
 use Rattle.ddpsh.specs.Served.{IsDurable, IsStored}
 use Rattle.ddpsh.specs.Crashes.{Carries, LastsFrom}
-use Rattle.ddpsh.specs.Script.{Item}
-use Rattle.ddpsh.specs.Answers.{Answer, said, is_accepted, is_refused}
+use Rattle.script_items.specs.Script.{Item}
+use Rattle.answer_text.specs.Answers.{Answer, said, is_accepted, is_refused}
 use Rattle.ddpsh.specs.Runs.{Entry, Made, StayOpen, calls_of, acknowledged}
 use Rattle.ddpsh.specs.Ends.{AnsweredSo, RunOf, HasLetGo, stop_end, over_end}
-use Rattle.ddpsh.specs.Input.{IsLeft, taken}
+use Rattle.script_items.specs.Input.{IsLeft, taken}
 use Rattle.ddpsh.specs.Sessions.{state_of, ack_now, counted_on, LineEnds}
 use Rattle.ddpsh.specs.declared.limits.TheConstants.{MOST_CALLS_OF_A_LINE}
 use Rattle.ddpsh.specs.declared.acks.Ack.{Ack}
-use Rattle.ddpsh.specs.declared.input.Input.{Input}
-use Rattle.ddpsh.specs.declared.answers.Answered.{Answered}
+use Rattle.script_items.specs.declared.input.Input.{Input}
+use Rattle.answer_text.specs.declared.answers.Answered.{Answered}
 use Rattle.ddpsh.specs.declared.ending.End.{End}
 use Rattle.ddpsh.specs.declared.ending.End.TheVariants as ends
 use Rattle.ddpsh.specs.declared.ending.Ran.{Ran}
-use Rattle.ddpsh.specs.declared.stops.SessionFault.{SessionFault}
+use Rattle.answer_text.specs.declared.stops.SessionFault.{SessionFault}
 use Rattle.ddpsh.specs.declared.session.Session.{Session}
 
 abbrev pub acks_when : Bool → Ack → List Ack

@@ -13,7 +13,7 @@ use Rattle.ddpsh.specs.Bounds.{Bounded, IsFresh}
 use Rattle.ddpsh.specs.Crashes.{MountsAfter, Lasts, LastsFrom}
 use Rattle.volume_inside.specs.declared.mount_fault.MountFault.{MountFault}
 use Rattle.ddpsh.specs.Opens.{Opens, EndsUnopened, IsRefusedEnd}
-use Rattle.ddpsh.specs.Told.{IsPrinted}
+use Rattle.answer_text.specs.Told.{IsPrinted}
 use Rattle.ddpsh.specs.Ends.{RunOf, HasLetGo}
 use Rattle.ddpsh.specs.Outcomes.{status_of, last_line}
 use Rattle.ddpsh.specs.declared.commands.Command.{Command}

@@ -2,22 +2,22 @@
 ghost use Rattle.std.specs.Prelude.{◌≡◌, false, true, Some, Ok, replicate, IfOk, OnOk, OnErr, IsErrOf};
 ghost use Rattle.cmdlet_line.specs.Lines.{Create, Write, Read, Fill, Length, Rename, Delete, Digest, Stat, Flush, Exit, ask_of};
 ghost use Rattle.plain_volume.specs.Replies.{done_reply};
-ghost use Rattle.ddpsh.specs.Script.{item_of, with_payload, Bare, Paid};
-ghost use Rattle.ddpsh.specs.Answers.{Answer, said, makes_none, may_stop};
-ghost use Rattle.ddpsh.specs.Saying.{IsSaid};
+ghost use Rattle.script_items.specs.Script.{item_of, with_payload, Bare, Paid};
+ghost use Rattle.answer_text.specs.Answers.{Answer, said};
+ghost use Rattle.ddpsh.specs.Answers.{makes_none, may_stop};
+ghost use Rattle.answer_text.specs.Saying.{IsSaid};
 ghost use Rattle.plain_volume.specs.Volume.{Volume as PlainVolume};
 ghost use Rattle.volume_core.specs.Volumes.{stopped, IsKept};
 ghost use Rattle.ddpsh.specs.Served.{Attempts, IsSteady, asked_as};
 
-use crate::answers::{
-    Answered, accepted, accepted_digest, accepted_number, end, read_room, refused, refused_call,
-    refused_line, silent,
-};
 use crate::listing::list;
-use crate::payload::is_spoilt_at;
-use crate::stops::SessionFault;
+use answer_text::{
+    Answered, SessionFault, accepted, accepted_digest, accepted_number, end, read_room, refused,
+    refused_call, refused_line, silent,
+};
 use cmdlet_line::{Line, LineFault};
 use plain_volume::{Fault, own_replies_are_steps};
+use script_items::is_spoilt_at;
 use std::alloc::Global;
 use vdisk::Disk;
 use volume_core::{Volume, volumes_wear_at_the_last_epoch};
@@ -118,6 +118,7 @@ fn write_line<D: Disk>(
 /// The bytes are read straight into their place in the answer.
 fn read<D: Disk>(
     volume: &mut Volume<D>,
+    alloc: Global,
     name: &[u8],
     at: u64,
     count: u64,
@@ -130,7 +131,7 @@ fn read<D: Disk>(
     ensures steady { IsSteady volume.old volume.new result }
 {
     own_replies_are_steps();
-    let place = match read_room(text, count) {
+    let place = match read_room(text, alloc, count) {
         Ok(place) => place,
         Err(fault) => return uncalled(Err(fault)),
     };
@@ -289,7 +290,7 @@ fn answer_line<D: Disk>(
         Line::Silent => uncalled(Ok(silent(text))),
         Line::Create(name) => create(volume, name, text),
         Line::Write(name, at, count) => write_line(volume, name, at, count, behind, text),
-        Line::Read(name, at, count) => read(volume, name, at, count, text),
+        Line::Read(name, at, count) => read(volume, alloc, name, at, count, text),
         Line::Flush => flush(volume, text),
         Line::Exit => exit(volume, text),
         Line::Fill(name, at, count, byte) => fill(volume, name, at, count, byte, text),

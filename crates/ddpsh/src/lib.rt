@@ -2,29 +2,24 @@
 #![tactic(auto)]
 
 mod acks;
-mod answers;
 mod calls;
 mod commands;
 mod ending;
-mod input;
-mod items;
 mod laws;
 mod limits;
-mod lines;
 mod listing;
 mod opening;
-mod payload;
-mod put;
 mod serving;
 mod session;
-mod stops;
 mod top;
 
 pub use acks::{Ack, Acks};
-pub use answers::Answered;
+pub use answer_text::{Answered, SessionFault};
 pub use commands::{Command, command_of};
-pub use laws::{items_have_one_answer, outputs_fix_states, scripts_have_one_output};
-pub use limits::{FEWEST_CLUSTERS, MOST_AHEAD, MOST_CALLS_OF_A_LINE, MOST_CLUSTERS, MOST_SCRIPT};
+pub use laws::{
+    few_lines_want_no_epoch, items_have_one_answer, outputs_fix_states, scripts_have_one_output,
+};
+pub use limits::{FEWEST_CLUSTERS, MOST_CALLS_OF_A_LINE, MOST_CLUSTERS};
+pub use script_items::{MOST_AHEAD, MOST_SCRIPT};
 pub use session::Session;
-pub use stops::SessionFault;
 pub use top::{Outcome, run};

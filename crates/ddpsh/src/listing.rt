@@ -1,16 +1,12 @@
 // All files of a volume, listed.
-ghost use Rattle.std.specs.Prelude.{◌≡◌, ◌++◌, false, option_map, IfOk, OnOk, OnErr, IsErrOf};
+ghost use Rattle.std.specs.Prelude.{◌≡◌, false, option_map};
 ghost use Rattle.cmdlet_line.specs.Lines.{Listing};
-ghost use Rattle.ddpsh.specs.Script.{Bare};
-ghost use Rattle.ddpsh.specs.Listing.{file_line};
-ghost use Rattle.ddpsh.specs.Answers.{Accepted, number};
-ghost use Rattle.ddpsh.specs.Saying.{IsSaid};
+ghost use Rattle.script_items.specs.Script.{Bare};
 ghost use Rattle.volume_core.specs.Volumes.{stopped};
 ghost use Rattle.ddpsh.specs.Served.{Attempts, IsSteady};
 
-use crate::answers::{Answered, add, add_decimal, add_number, begin, end};
 use crate::calls::Attempt;
-use crate::stops::SessionFault;
+use answer_text::{SessionFault, accepted_lines, add_line};
 use plain_volume::Name;
 use plain_volume::limits::MOST_FILES;
 use std::alloc::Global;
@@ -25,30 +21,6 @@ fn bytes_in(name: &Option<Name>) -> Option<&[u8]>
         Some(name) => Some(name.as_bytes()),
         None => None,
     }
-}
-
-/// A file's line, with the newline in front of it.
-fn add_line(text: &mut Vec<u8>, size: u64, name: &[u8]) -> Result<(), SessionFault>
-    ensures { OnOk result (text.new.items ≡ text.old.items ++ file_line size name.now) }
-{
-    add(text, b"\n")?;
-    add_decimal(text, size)?;
-    add(text, b" ")?;
-    add(text, name)
-}
-
-/// The answer `ok` with the number of files and their lines behind it.
-fn accepted_lines(text: &mut Vec<u8>, alloc: Global, count: u64) -> Result<Answered, SessionFault>
-    ensures said { IfOk result (λ a. IsSaid a text.new.items (Accepted (number count ++ text.old.items))) }
-    ensures memory { OnErr result (IsErrOf result SessionFault.Memory) }
-{
-    let mut whole = Vec::new(alloc);
-    begin(&mut whole, b"ok", b"")?;
-    add_number(&mut whole, count)?;
-    add(&mut whole, text)?;
-    let answered = end(&mut whole, Answered::Ok)?;
-    *text = whole;
-    Ok(answered)
 }
 
 /// A list for which memory was wanting.

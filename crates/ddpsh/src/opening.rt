@@ -1,7 +1,8 @@
 // A volume is opened: mounted, or made anew.
 ghost use Rattle.std.specs.Prelude.{◌≡◌, ◌≤◌, false, ℕ, IsTrue, IfOk, IfErr};
+ghost use Rattle.answer_text.specs.Saying.{IsSaid};
 ghost use Rattle.meta_log.specs.Opened.{IsOnlyRead};
-ghost use Rattle.ddpsh.specs.Answers.{Refused, text_of};
+ghost use Rattle.answer_text.specs.Answers.{Refused, text_of};
 ghost use Rattle.ddpsh.specs.Bounds.{IsFresh};
 ghost use Rattle.ddpsh.specs.Commands.{IsInRange};
 ghost use Rattle.ddpsh.specs.Opens.{Opens, IsRefusal, IsRefusedEnd};
@@ -10,9 +11,9 @@ ghost use Rattle.ddpsh.specs.Served.{volume_state};
 ghost use Rattle.volume_core.specs.Volumes.{device_of, disk_of, view_now, stopped, IsKept};
 ghost use Rattle.ddpsh.specs.declared.commands.Command.TheVariants as asks;
 
-use crate::answers::refused_mount;
 use crate::commands::Command;
 use crate::ending::End;
+use answer_text::{Answered, SessionFault, refused, refused_number, refused_numbers};
 use std::alloc::Global;
 use vdisk::Disk;
 use volume_core::Volume;
@@ -40,6 +41,21 @@ pub(crate) fn open<D: Disk>(
     match command {
         Command::Mount => Volume::mount(alloc, disk),
         Command::Format(clusters) => Volume::format(alloc, disk, clusters),
+    }
+}
+
+/// The answer where no volume was opened.
+fn refused_mount(text: &mut Vec<u8>, fault: MountFault) -> Result<Answered, SessionFault>
+    ensures said { IfOk result (λ a. IsSaid a text.new.items (Refused (mount_text fault))) }
+{
+    match fault {
+        MountFault::NotVolume => refused(text, b" NotVolume", b""),
+        MountFault::VersionUnknown(found) => refused_number(text, b" VersionUnknown", found as u64),
+        MountFault::SizeDiffers(said, size) => refused_numbers(text, b" SizeDiffers", said, size),
+        MountFault::MetaDamaged(half) => refused_number(text, b" MetaDamaged", half as u64),
+        MountFault::BadTable(rule) => refused_number(text, b" BadTable", rule as u64),
+        MountFault::Failed => refused(text, b" Failed", b""),
+        MountFault::Memory => refused(text, b" Memory", b""),
     }
 }
 

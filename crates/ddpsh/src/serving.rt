@@ -3,10 +3,10 @@ ghost use Rattle.std.specs.Prelude.{◌≡◌, ◌≤◌, ◌<◌, ◌⊎◌, �
 ghost use Rattle.std.specs.Prelude.{IfOk, OnOk, IsErrOf, vec_capacity};
 ghost use Rattle.vdisk.specs.Causes.{Rose};
 ghost use Rattle.cmdlet_line.specs.Lines.{line_of};
-ghost use Rattle.ddpsh.specs.declared.limits.TheConstants.{MOST_SCRIPT, MOST_KEPT};
-ghost use Rattle.ddpsh.specs.Input.{ahead, GaveTooMany};
+ghost use Rattle.script_items.specs.declared.limits.TheConstants.{MOST_SCRIPT, MOST_KEPT};
+ghost use Rattle.script_items.specs.Input.{ahead, GaveTooMany};
 ghost use Rattle.ddpsh.specs.Clocks.{ReadsClock, ReadsOften, MayCut};
-ghost use Rattle.ddpsh.specs.Script.{item_of, volume_text};
+ghost use Rattle.script_items.specs.Script.{item_of, volume_text};
 ghost use Rattle.volume_core.specs.Volumes.{disk_of, view_now, stopped, IsKept};
 ghost use Rattle.ddpsh.specs.Served.{StaysSame};
 ghost use Rattle.ddpsh.specs.Sessions.{is_over, is_last};
@@ -16,13 +16,10 @@ ghost use Rattle.ddpsh.specs.Steps.{session_end, IsSessionEnd, DoesStep, DoesEnd
 ghost use Rattle.volume_inside.specs.declared.mount_fault.MountFault.{MountFault};
 
 use crate::acks::{Ack, keep};
-use crate::answers::Answered;
 use crate::ending::{End, Ran};
-use crate::input::{Input, ScriptFault};
-use crate::items::read_item;
-use crate::limits::MOST_KEPT;
 use crate::session::{Session, wants_are_spent};
-use crate::stops::SessionFault;
+use answer_text::{Answered, SessionFault};
+use script_items::{Input, MOST_KEPT, ScriptFault, read_item};
 use std::alloc::{AllocError, Global};
 use vdisk::{Clock, Disk, Sink, Source};
 

@@ -1,8 +1,8 @@
 // A session: lines served one by one over a mounted volume.
-ghost use Rattle.std.specs.Prelude.{◌≡◌, ◌≤◌, ◌⊎◌, false, true, None, Some, Ok, is_some, IfOk, OnOk, IsErrOf, IsTrue, IsOk};
+ghost use Rattle.std.specs.Prelude.{◌≡◌, ◌≤◌, ◌⊎◌, false, true, None, Some, Ok, is_some, IfOk, IfSome, OnOk, IsErrOf, IsTrue, IsOk};
 ghost use Rattle.vdisk.specs.Causes.{Rose, HasCause};
 ghost use Rattle.cmdlet_line.specs.Lines.{line_of};
-ghost use Rattle.ddpsh.specs.Script.{item_of};
+ghost use Rattle.script_items.specs.Script.{item_of};
 ghost use Rattle.plain_volume.specs.Volume.{Volume as PlainVolume};
 ghost use Rattle.volume_core.specs.Volumes.{device_of, disk_of, stopped, IsKept};
 ghost use Rattle.ddpsh.specs.Bounds.{WantsAreSpent};
@@ -12,10 +12,8 @@ ghost use Rattle.ddpsh.specs.Clocks.{IsRead, KeepsSecond, ReadsClock};
 ghost use Rattle.ddpsh.specs.Saying.{is_flushed, ended_by};
 
 use crate::acks::Ack;
-use crate::answers::Answered;
 use crate::calls::answer;
-use crate::put::put_all;
-use crate::stops::SessionFault;
+use answer_text::{Answered, SessionFault, put_all};
 use cmdlet_line::{Line, LineFault, parse};
 use plain_volume::Fault;
 use std::alloc::Global;
@@ -37,6 +35,8 @@ pub struct Session<D: Disk> {
     ack: Option<Ack>,
     /// Whether the volume was let go, or its script is at its end.
     over: bool,
+    /// The room of the last answer, which the next one goes into; None before the first.
+    room: Option<Vec<u8>>,
 }
 
 /// Reads the clock, but for a line that asks nothing: that leaves the last reading.
@@ -52,6 +52,16 @@ fn read_clock<C: Clock>(
     match asked {
         Ok(Line::Silent) => Ok(second),
         _ => clock.now(),
+    }
+}
+
+/// Room for an answer: what was kept of the last one, with whatever it holds.
+fn answer_room(kept: Option<Vec<u8>>, alloc: Global) -> Vec<u8>
+    ensures { IfSome kept (λ room. result ≡ room) }
+{
+    match kept {
+        Some(room) => room,
+        None => Vec::new(alloc),
     }
 }
 
@@ -106,6 +116,7 @@ impl<D: Disk> Session<D> {
             second: 0,
             ack: None,
             over: false,
+            room: None,
         }
     }
 
@@ -161,6 +172,13 @@ impl<D: Disk> Session<D> {
         }
     }
 
+    /// Keeps the room of an answer for the next one.
+    fn keep_room(&mut self, room: Vec<u8>)
+        ensures { self.new ≡ record self.old { room = Some room } }
+    {
+        self.room = Some(room);
+    }
+
     /// Serves what a line asks, and makes the text of its answer.
     fn attempt<C: Clock>(
         &mut self,
@@ -200,8 +218,9 @@ impl<D: Disk> Session<D> {
 
     /// Serves one line: its calls are made, and its answer is written. The line comes without its newline and the
     /// carriage return before that, or by its first 4,097 bytes where it has more. `payload` has what stands behind a
-    /// line that takes one: up to COUNT bytes, and the byte in the newline's place; else it is empty. The clock is
-    /// read once for a line that is answered, before its calls.
+    /// line that takes one: up to COUNT bytes, and the byte in the newline's place; other lines do not look at it. The
+    /// clock is read once for a line that is answered, before its calls. The room of the answer is kept for the next
+    /// line.
     pub fn line<K: Sink, C: Clock>(
         &mut self,
         alloc: Global,
@@ -235,14 +254,16 @@ impl<D: Disk> Session<D> {
         ensures sink { IsErrOf result SessionFault.Sink → Rose (K.faults out.old) (K.faults out.new) }
     {
         self.ack = None;
-        let mut text = Vec::new(alloc);
+        let mut text = answer_room(self.room.take(), alloc);
         let asked = parse(line, self.text);
         let answered = match self.attempt(alloc, asked, payload, &mut text, clock) {
             Ok(answered) => answered,
             Err(fault) => return Err(fault),
         };
+        let written = put_all(out, &text);
+        self.keep_room(text);
         self.let_go(answered);
-        match put_all(out, &text) {
+        match written {
             Ok(()) => {
                 self.acknowledge(is_flushed(asked, answered));
                 Ok(answered)

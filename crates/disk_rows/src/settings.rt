@@ -76,11 +76,15 @@ fn set_numbers(settings: &mut Settings, mut asked: Asked<'_>) -> Result<(), RowF
 /// Adds a text so many times.
 fn push_texts(texts: &mut Texts, mut asked: Asked<'_>) -> Result<(), RowFault> {
     for _ in 0..asked.number()? {
-        if texts.push(asked.rest()).is_err() {
+        if !is_pushed(texts, asked.rest()) {
             return Err(RowFault::NoQuestion);
         }
     }
     Ok(())
+}
+
+fn is_pushed(texts: &mut Texts, text: &[u8]) -> bool {
+    texts.push(text).is_ok()
 }
 
 /// Sets the settings that were made, and begins others anew.

@@ -1,21 +1,12 @@
 -- What a staged record does to the length of a checkpoint, and to the records.
-use Rattle.std.proofs.Common.{◌≡◌, ℕ, ◌+◌, ◌≤◌, List, [], ◌∷◌, ◌++◌, length, drop, sym, ◌∙◌, ap, arith}
-use Rattle.std.specs.Prelude.{T, Some, None}
+use Rattle.std.proofs.Common.{◌≡◌, ℕ, ◌≤◌, List, [], ◌∷◌, ◌++◌, length, drop, sym, ◌∙◌, ap, arith}
+use Rattle.std.specs.Prelude.{Some}
 use Rattle.std.proofs.lemmas.List.{drop-append-le, drop_all}
-use Rattle.std.specs.FinMap.Entries.{put, find, is_sorted}
-use Rattle.byte_map.specs.Words.{Map, bytes_cmp, without}
-use Rattle.byte_map.specs.Laws.{length_put_new, length_put_present, bytes_in_put_new, bytes_in_put_present, length_without, bytes_in_without}
+use Rattle.byte_map.specs.Words.{Map, without}
+use Rattle.byte_map.specs.Laws.{length_without, bytes_in_without}
 use Rattle.meta_log.specs.Log.{checkpoint_length}
 use Rattle.meta_log.specs.Records.{Record, records_of, changes}
 use Rattle.meta_log.specs.Spelled.{Fits, bytes_of, records_push}
-
-pub length_new : (k v : List ℕ) (m : Map) → T (is_sorted bytes_cmp m) → find bytes_cmp k m ≡ None
-    → checkpoint_length (put bytes_cmp k v m) ≡ checkpoint_length m + 5 + (length k + length v)
-length_new k v m sorted new = omega (arith, length_put_new k v m sorted new, bytes_in_put_new k v m new)
-
-pub length_present : (k v w : List ℕ) (m : Map) → T (is_sorted bytes_cmp m) → find bytes_cmp k m ≡ Some w
-    → checkpoint_length (put bytes_cmp k v m) + length w ≡ checkpoint_length m + length v
-length_present k v w m sorted present = omega (arith, length_put_present k v w m sorted present, bytes_in_put_present k v w m sorted present)
 
 pub length_dropped : (from to : List ℕ) (m : Map) → checkpoint_length (without from to m) ≤ checkpoint_length m
 length_dropped from to m = omega (arith, length_without from to m, bytes_in_without from to m)

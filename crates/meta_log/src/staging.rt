@@ -1,7 +1,7 @@
 // The map in memory, and what is staged for the next commit.
 ghost use Rattle.std.specs.Prelude.{◌≡◌, ◌⊎◌, ◌↔◌, T, ◌<◌, ◌≤◌, ◌+◌, ◌*◌, List, ℕ, length, Option, Some, option_map, IsTrue, IsOk, OnOk, OnErr, IsErrOf};
 ghost use Rattle.std.specs.FinMap.Entries.{put, find, is_sorted};
-ghost use Rattle.byte_map.specs.Words.{Map, bytes_cmp, next_in, without};
+ghost use Rattle.byte_map.specs.Words.{Map, bytes_cmp, next_in, pairs_between, without};
 ghost use Rattle.meta_log.specs.Spelled.{record_length};
 
 use crate::checkpoint::body_bytes;
@@ -9,6 +9,7 @@ use crate::fault::MetaFault;
 use crate::limits::{LEAST_HALF, MOST_STAGED, RECORD_HEAD};
 use crate::log::MetaLog;
 use crate::record::{push_drop, push_put};
+use byte_map::NotPut;
 use vdisk::Disk;
 
 impl<D: Disk> MetaLog<D> {
@@ -29,6 +30,13 @@ impl<D: Disk> MetaLog<D> {
         self.map.next(after)
     }
 
+    /// How many pairs have a key from one on and below another, with all that is staged.
+    pub fn count_between(&self, from: &[u8], to: &[u8]) -> usize
+        ensures { result ≡ length (pairs_between from.now to.now (now_of self.now)) }
+    {
+        self.map.count_between(from, to)
+    }
+
     /// How many bytes a checkpoint of the map would have now.
     pub fn checkpoint_bytes(&self) -> u64
         ensures bytes { result ≡ checkpoint_length (now_of self.now) }
@@ -46,20 +54,6 @@ impl<D: Disk> MetaLog<D> {
             .saturating_add(second.len())
             .saturating_add(RECORD_HEAD as usize);
         record <= MOST_STAGED - self.staged_bytes()
-    }
-
-    // How many bytes a checkpoint of the map would have with this pair.
-    fn checkpoint_with(&self, key: &[u8], value: &[u8]) -> u64
-        requires key { length key.now ≤ MOST_STAGED }
-        requires value { length value.now ≤ MOST_STAGED }
-        ensures bytes { result ≡ checkpoint_length (put bytes_cmp key.now value.now (now_of self.now)) }
-        ensures sorted { T (is_sorted bytes_cmp (now_of self.now)) }
-    {
-        let now = self.checkpoint_bytes();
-        match self.map.get(key) {
-            Some(old) => now + value.len() as u64 - old.len() as u64,
-            None => now + RECORD_HEAD + (key.len() + value.len()) as u64,
-        }
     }
 
     /// Stages a pair. Only the memory is changed, and after a refusal nothing is.
@@ -86,12 +80,15 @@ impl<D: Disk> MetaLog<D> {
         if !self.has_room(key, value) {
             return Err(MetaFault::GroupFull);
         }
-        if self.checkpoint_with(key, value) > self.half {
-            return Err(MetaFault::TableFull);
+        let most = self.half - LEAST_HALF;
+        match self.map.put_within(key, value, RECORD_HEAD, most) {
+            Ok(()) => {
+                push_put(&mut self.staged, key, value);
+                Ok(())
+            }
+            Err(NotPut::Beyond) => Err(MetaFault::TableFull),
+            Err(NotPut::Memory) => Err(MetaFault::Memory),
         }
-        self.map.put(key, value)?;
-        push_put(&mut self.staged, key, value);
-        Ok(())
     }
 
     /// Stages that each key from the first on and below the second is dropped. Only the memory is changed, and after a

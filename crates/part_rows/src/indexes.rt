@@ -63,8 +63,8 @@ fn answer_line(
         b"find" => found(answers, both, asked)?,
         b"find-each" => answers.number(found_each(both, asked)?)?,
         b"clear" => clear(both),
-        b"held" => answers.number(both.compact.held() as u64)?,
-        b"slots-at-most" => answers.whether(both.compact.slots() <= asked.size()?)?,
+        b"held" => answers.number(held(both))?,
+        b"slots-at-most" => answers.whether(slots(both) <= asked.number()?)?,
         _ => return Err(RowFault::NoQuestion),
     }
     Ok(())
@@ -126,14 +126,10 @@ fn find<I: Index>(index: &I, digest: &[u8; 32], after: u64, known: &Known) -> Op
     index.find(digest, after, known)
 }
 
-/// What both forms find under a digest above an id, or that they differ.
-fn found_by_both(both: &Both, digest: &[u8; 32], after: u64) -> Result<Option<u64>, ()> {
-    let found = find(&both.ordered, digest, after, &both.known);
-    if found == find(&both.compact, digest, after, &both.known) {
-        Ok(found)
-    } else {
-        Err(())
-    }
+/// Do both forms find this under a digest above an id?
+fn both_find(both: &Both, digest: &[u8; 32], after: u64, wanted: Option<u64>) -> bool {
+    find(&both.ordered, digest, after, &both.known) == wanted
+        && find(&both.compact, digest, after, &both.known) == wanted
 }
 
 /// `number N AFTER` or `byte B AFTER`: what is found under the digest of a number, or of a byte alone.
@@ -143,10 +139,14 @@ fn found(answers: &mut Answers, both: &Both, mut asked: Asked<'_>) -> Result<(),
         b"byte" => [asked.byte()?; 32],
         _ => return Err(RowFault::NoQuestion),
     };
-    match found_by_both(both, &digest, asked.number()?) {
-        Ok(Some(id)) => answers.number(id)?,
-        Ok(None) => answers.line("none")?,
-        Err(()) => answers.line("the two forms differ")?,
+    let after = asked.number()?;
+    let found = find(&both.ordered, &digest, after, &both.known);
+    if !both_find(both, &digest, after, found) {
+        return Ok(answers.line("the two forms differ")?);
+    }
+    match found {
+        Some(id) => answers.number(id)?,
+        None => answers.line("none")?,
     }
     Ok(())
 }
@@ -158,12 +158,19 @@ fn found_each(both: &Both, mut asked: Asked<'_>) -> Result<u64, RowFault> {
     for id in first..asked.number()? {
         let digest = digest_numbered(id);
         let before = id.saturating_sub(1);
-        let is_found = found_by_both(both, &digest, before) == Ok(Some(id));
-        if is_found && found_by_both(both, &digest, id) == Ok(None) {
+        if both_find(both, &digest, before, Some(id)) && both_find(both, &digest, id, None) {
             count = count.saturating_add(1);
         }
     }
     Ok(count)
+}
+
+fn held(both: &Both) -> u64 {
+    both.compact.held() as u64
+}
+
+fn slots(both: &Both) -> u64 {
+    both.compact.slots() as u64
 }
 
 fn clear(both: &mut Both) {

@@ -29,8 +29,8 @@ fn answer_line(
         b"get" => value(answers, get(map, &asked.bytes(alloc)?))?,
         b"first" => pair(answers, first(map))?,
         b"next" => pair(answers, next(map, &asked.bytes(alloc)?))?,
-        b"count" => answers.number(map.count() as u64)?,
-        b"bytes" => answers.number(map.bytes())?,
+        b"count" => answers.number(count(map))?,
+        b"bytes" => answers.number(bytes(map))?,
         b"walk" => walked(answers, map)?,
         b"beside-a-list" => beside_a_list(alloc, map, asked, answers)?,
         _ => return Err(RowFault::NoQuestion),
@@ -56,6 +56,14 @@ fn first(map: &ByteMap) -> Option<(&[u8], &[u8])> {
 
 fn next<'a>(map: &'a ByteMap, after: &[u8]) -> Option<(&'a [u8], &'a [u8])> {
     map.next(after)
+}
+
+fn count(map: &ByteMap) -> u64 {
+    map.count() as u64
+}
+
+fn bytes(map: &ByteMap) -> u64 {
+    map.bytes()
 }
 
 fn value(answers: &mut Answers, value: Option<&[u8]>) -> Result<(), AllocError> {

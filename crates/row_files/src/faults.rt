@@ -4,7 +4,7 @@ use std::error::Error;
 use std::{fmt, io};
 
 /// Why a file of rows was not run to its end. A row that differs is none of these: it is told.
-#[derive(Clone, Copy, Debug, PartialEq, Eq)]
+#[derive(Clone, Copy, Debug)]
 pub enum RowFault {
     /// There was no memory.
     Memory,

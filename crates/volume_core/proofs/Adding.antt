@@ -12,8 +12,8 @@ use Rattle.volume_inside.specs.Typed.{Typed}
 use Rattle.volume_tables.specs.Log.{log_epoch}
 use Rattle.volume_tables.specs.Tables.{tables_now, due_of, would_wear}
 use Rattle.volume_tables.specs.declared.tables.Tables.{Tables}
-use Rattle.volume_files.specs.Reads.{ReadsOnly}
-use Rattle.volume_files.specs.Spending.{Spends}
+use Rattle.volume_tables.specs.Reads.{ReadsOnly}
+use Rattle.volume_tables.specs.Spending.{Spends}
 use Rattle.volume_core.specs.Bounds.{touched_by, changed_by, HasSpent, Adds}
 use Rattle.volume_core.specs.Volumes.{stopped, Endures}
 use Rattle.volume_core.specs.declared.volume.Volume.{Volume as Mounted}

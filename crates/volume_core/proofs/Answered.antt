@@ -23,9 +23,9 @@ use Rattle.volume_inside.specs.View.{file_cells}
 use Rattle.volume_inside.proofs.Views.{view_whole}
 use Rattle.volume_tables.specs.Tables.{tables_now, inside_now, view_now, disk_of, clusters_in}
 use Rattle.volume_tables.specs.declared.tables.Tables.{Tables}
+use Rattle.volume_tables.specs.Sound.{IsSound}
+use Rattle.volume_tables.specs.Wants.{reply_of, is_late, IsReplied}
 use Rattle.volume_files.specs.Found.{IsFileOf}
-use Rattle.volume_files.specs.Sound.{IsSound}
-use Rattle.volume_files.specs.Wants.{reply_of, is_late, IsReplied}
 use Rattle.volume_core.specs.Replies.{digest_reply}
 
 -- ---- replies

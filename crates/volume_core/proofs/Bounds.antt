@@ -43,10 +43,10 @@ use Rattle.volume_tables.specs.Tables.{tables_now, inside_now, checkpoint_of, wo
 use Rattle.volume_tables.proofs.Answers.{as_true}
 use Rattle.volume_tables.proofs.Keyed.{second_is}
 use Rattle.volume_tables.proofs.Measured.{measured}
+use Rattle.volume_tables.specs.Wants.{Needs, wanting, has_room, free_of, last_id}
 use Rattle.volume_files.specs.Needs.{create_needs, rename_needs, delete_needs, write_needs, length_needs, missing}
 use Rattle.volume_files.specs.Needs.{one_if_none, touched, first_touched}
 use Rattle.volume_files.specs.Lengths.{for_file, length_of}
-use Rattle.volume_files.specs.Wants.{Needs, wanting, has_room, free_of, last_id}
 use Rattle.volume_files.specs.Writing.{write_wants}
 use Rattle.volume_core.specs.Bounds.{files_bytes, touched_by, named_by, HasSpent, IsSpent}
 use Rattle.volume_core.specs.Volumes.{clusters_in, view_now}

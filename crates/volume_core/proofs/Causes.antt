@@ -18,7 +18,7 @@ use Rattle.plain_volume.specs.declared.call.Fault.{Fault}
 use Rattle.plain_volume.specs.declared.call.Fault.TheVariants.{BadName, Exists, OutsideFile, TooLarge, Failed, Damaged}
 use Rattle.plain_volume.specs.declared.call.Reply.{Reply}
 use Rattle.plain_volume.specs.declared.call.Reply.TheVariants as reply
-use Rattle.volume_files.specs.Wants.{reply_of, IsReplied, IsRepliedOrMemory}
+use Rattle.volume_tables.specs.Wants.{reply_of, IsReplied, IsRepliedOrMemory}
 
 -- the plain machine has no device
 abbrev IsSafe : Outcome → Type 0

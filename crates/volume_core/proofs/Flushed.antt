@@ -15,13 +15,13 @@ use Rattle.volume_inside.specs.Layout.{data_clusters}
 use Rattle.volume_inside.specs.Rules.{RulesHold}
 use Rattle.volume_inside.specs.Shows.{Area, Kept}
 use Rattle.volume_inside.specs.Typed.{Typed}
-use Rattle.volume_files.specs.Wants.{IsReplied, reply_of}
+use Rattle.volume_tables.specs.Wants.{IsReplied, reply_of}
 use Rattle.cluster_space.specs.States.{free_in, deferred_in}
 use Rattle.volume_tables.specs.Tables.{tables_now, states_of, disk_of, area_of, clusters_in, stopped}
 use Rattle.volume_tables.specs.Tables.{IsTables}
 use Rattle.volume_tables.specs.declared.tables.Tables.{Tables}
 use Rattle.volume_tables.proofs.Leaving.{area_same}
-use Rattle.volume_files.specs.Sound.{IsSound, IsKept}
+use Rattle.volume_tables.specs.Sound.{IsSound, IsKept}
 use Rattle.volume_core.specs.Wants.{IsWant}
 
 -- the reply to a flush, where it is known when a commit is refused

@@ -21,7 +21,7 @@ use Rattle.volume_inside.specs.Inside.{Inside}
 use Rattle.volume_inside.specs.View.{named_cells, view}
 use Rattle.volume_tables.specs.Tables.{tables_now, inside_now, view_now, next_after}
 use Rattle.volume_tables.specs.declared.tables.Tables.{Tables}
-use Rattle.volume_files.specs.Sound.{IsSound}
+use Rattle.volume_tables.specs.Sound.{IsSound}
 use Rattle.volume_files.proofs.Found.{lawful_short}
 
 -- the name of an entry, if there is one

@@ -18,7 +18,7 @@ use Rattle.volume_tables.specs.Mount.{read_meta}
 use Rattle.volume_tables.specs.Tables.{tables_now, inside_now, view_now, states_of, disk_of, clusters_in, stopped}
 use Rattle.volume_tables.specs.Tables.{due_of, IsToldBy}
 use Rattle.volume_tables.specs.declared.tables.Tables.{Tables}
-use Rattle.volume_files.specs.Sound.{IsSound}
+use Rattle.volume_tables.specs.Sound.{IsSound}
 use Rattle.volume_core.specs.States.{state_at, IsSettled, IsStateOf, IsFreshState}
 use Rattle.volume_core.proofs.Counted.{filled_counts, filled_deferred}
 use Rattle.volume_core.proofs.Settled.{settled}

@@ -8,9 +8,9 @@ use Rattle.volume_inside.specs.Inside.{inside_at}
 use Rattle.volume_inside.specs.View.{view}
 use Rattle.volume_tables.specs.Tables.{view_now, stopped}
 use Rattle.volume_tables.specs.declared.tables.Tables.{Tables}
-use Rattle.volume_files.specs.Reads.{ReadsOnly}
-use Rattle.volume_files.specs.Sound.{IsSound, Endures}
-use Rattle.volume_files.proofs.Endured.{endures_start, endures_leaves}
+use Rattle.volume_tables.specs.Reads.{ReadsOnly}
+use Rattle.volume_tables.specs.Sound.{IsSound, Endures}
+use Rattle.volume_tables.proofs.Endured.{endures_start, endures_leaves}
 use Rattle.volume_core.proofs.Flushed.{sound_still}
 
 module _ {D : Type 0} {d : Ghosts D} (a b : Tables D d) (reads : ReadsOnly a b) where

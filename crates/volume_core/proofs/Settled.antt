@@ -6,8 +6,8 @@ use Rattle.cluster_space.specs.States.{free_in, deferred_in}
 use Rattle.meta_log.specs.Meta.{last_epoch}
 use Rattle.volume_tables.specs.Tables.{states_of, staged_of, due_of, stopped}
 use Rattle.volume_tables.specs.declared.tables.Tables.{Tables}
-use Rattle.volume_files.specs.Sound.{IsSound}
-use Rattle.volume_files.specs.Wants.{free_of}
+use Rattle.volume_tables.specs.Sound.{IsSound}
+use Rattle.volume_tables.specs.Wants.{free_of}
 use Rattle.volume_core.specs.States.{left_in, state_at, IsSettled}
 use Rattle.volume_core.proofs.Told.{left_told}
 

@@ -33,10 +33,10 @@ use Rattle.volume_tables.specs.Sizes.{tables_bytes}
 use Rattle.volume_tables.specs.Tables.{tables_now, inside_now, checkpoint_of, would_wear, disk_of, clusters_in}
 use Rattle.volume_tables.specs.declared.tables.Tables.{Tables}
 use Rattle.volume_tables.proofs.Measured.{measured}
+use Rattle.volume_tables.specs.Wants.{Needs, wanting, has_room, free_of, last_id, IsReplied, IsRepliedOrMemory}
 use Rattle.volume_files.specs.Lengths.{for_file, length_of, length_wants}
 use Rattle.volume_files.specs.Needs.{create_needs, rename_needs, delete_needs, write_needs, length_needs}
 use Rattle.volume_files.specs.Needs.{missing, one_if_none, is_cut, first_touched, touched}
-use Rattle.volume_files.specs.Wants.{Needs, wanting, has_room, free_of, last_id, IsReplied, IsRepliedOrMemory}
 use Rattle.volume_files.specs.Writing.{write_wants, ReadsFirst}
 use Rattle.volume_core.specs.States.{extents_told, tables_told, left_in, wanting_in, write_wants_in, length_wants_in}
 use Rattle.volume_core.specs.States.{state_at, state_of}

@@ -13,7 +13,7 @@ use Rattle.volume_inside.specs.Layout.{half_bytes}
 use Rattle.volume_inside.specs.Rules.{next_id_of}
 use Rattle.volume_tables.specs.Tables.{tables_now, checkpoint_of, clusters_in, would_wear}
 use Rattle.volume_tables.specs.declared.tables.Tables.{Tables}
-use Rattle.volume_files.specs.Wants.{Needs, wanting, has_room, free_of, last_id}
+use Rattle.volume_tables.specs.Wants.{Needs, wanting, has_room, free_of, last_id}
 use Rattle.volume_files.specs.Needs.{create_needs, write_needs, length_needs, rename_needs, delete_needs}
 use Rattle.volume_files.specs.Lengths.{for_file, length_of, length_wants}
 use Rattle.volume_files.specs.Writing.{write_wants}

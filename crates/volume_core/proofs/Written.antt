@@ -22,13 +22,13 @@ use Rattle.volume_inside.specs.View.{file_cells, view}
 use Rattle.volume_inside.proofs.Names.{view_of_one_file}
 use Rattle.volume_tables.specs.Tables.{tables_now, inside_now, view_now, disk_of, clusters_in}
 use Rattle.volume_tables.specs.declared.tables.Tables.{Tables}
+use Rattle.volume_tables.specs.Sound.{IsSound}
+use Rattle.volume_tables.specs.Wants.{reply_of, IsRepliedOrMemory}
+use Rattle.volume_tables.proofs.Wanted.{IsEarly, replied_early}
 use Rattle.volume_files.specs.Found.{IsFileOf}
 use Rattle.volume_files.specs.Lengths.{for_file}
-use Rattle.volume_files.specs.Sound.{IsSound}
-use Rattle.volume_files.specs.Wants.{reply_of, IsRepliedOrMemory}
 use Rattle.volume_files.specs.Writing.{AreWritten, write_wants}
 use Rattle.volume_files.proofs.Found.{names_in_order}
-use Rattle.volume_files.proofs.Wanted.{IsEarly, replied_early}
 use Rattle.volume_core.proofs.Told.{file_of}
 use Rattle.volume_core.proofs.Answered.{file_is_whole}
 

@@ -6,7 +6,7 @@ use Rattle.plain_volume.specs.declared.call.Call.{Call}
 use Rattle.plain_volume.specs.declared.call.Reply.{Reply}
 use Rattle.plain_volume.specs.declared.call.Reply.TheVariants as reply
 use Rattle.plain_volume.specs.declared.call.Fault.{Fault}
-use Rattle.volume_files.specs.Wants.{IsReplied, IsRepliedOrMemory}
+use Rattle.volume_tables.specs.Wants.{IsReplied, IsRepliedOrMemory}
 use Rattle.volume_core.specs.Volumes.{view_now, disk_of}
 use Rattle.volume_core.specs.Wants.{wants_of}
 use Rattle.volume_core.specs.declared.volume.Volume.{Volume as Mounted}

@@ -14,7 +14,7 @@ use Rattle.volume_inside.specs.Lists.{IsOut, IsOnce}
 use Rattle.volume_inside.specs.Rules.{IsVolumeRecord, AreSettings, IsResultRecord, RecordsHold, NameHolds}
 use Rattle.volume_inside.specs.Rules.{IsNamedOnce, NamesHold, FileHolds, FilesHold, LiesIn, ExtentHolds, ExtentsHold}
 use Rattle.volume_inside.specs.Rules.{RulesHold}
-use Rattle.volume_files.specs.Sound.{IsSound}
+use Rattle.volume_tables.specs.Sound.{IsSound}
 use Rattle.volume_tables.specs.declared.tables.Tables.{Tables}
 
 each_prop : {K V : Type 0} (P : K → V → Type 0) → ((k : K) (v : V) → IsProp (P k v)) → (es : List (K × V))

@@ -1,5 +1,5 @@
 -- The state of a volume: what it holds, with no place of a cluster, and what is wanting for a call in it.
-use Rattle.std.specs.Prelude.{◌≡◌, ◌+◌, ◌-◌, ◌*◌, ◌&&◌, ℕ, Bool, false, not, cond, nat_eq, nat_le, nat_lt, List}
+use Rattle.std.specs.Prelude.{◌≡◌, ◌+◌, ◌-◌, ◌*◌, ◌&&◌, ℕ, Bool, false, true, not, cond, nat_eq, nat_le, nat_lt, List}
 use Rattle.std.specs.Prelude.{[], ◌∷◌, length, Option, Some, None, Ok}
 use Rattle.std.specs.FinMap.{find}
 use Rattle.vdisk.specs.declared.disk.Disk.{Ghosts}
@@ -25,9 +25,9 @@ use Rattle.volume_tables.specs.Sizes.{tables_bytes}
 use Rattle.volume_tables.specs.Tables as tables
 use Rattle.volume_tables.specs.Tables.{inside_now, would_wear}
 use Rattle.volume_tables.specs.declared.tables.Tables.{Tables}
+use Rattle.volume_tables.specs.Wants.{Needs, has_room, last_id}
 use Rattle.volume_files.specs.Lengths.{for_file, length_of}
 use Rattle.volume_files.specs.Needs.{create_needs, rename_needs, delete_needs, write_needs, length_needs}
-use Rattle.volume_files.specs.Wants.{Needs, has_room, last_id}
 use Rattle.volume_core.specs.declared.volume.Volume.{Volume as Mounted}
 
 -- ---- states
@@ -100,6 +100,11 @@ wants_in s (Read name at count) = None
 wants_in s (Digest name) = None
 wants_in s (Stat name) = None
 wants_in s (Next after) = None
+
+-- what each call wants where no epoch is wanting: the inside and the number of clusters tell it
+abbrev pub wants_but_epochs : ℕ → Inside → Call → Option Fault
+wants_but_epochs n inside call =
+    wants_in (record { clusters = n; inside = inside; epoch = 0; wears = false; has_room = λ needs. true }) call
 
 -- ---- which states there are
 

@@ -5,7 +5,7 @@ use Rattle.vdisk.specs.declared.disk.Disk.{Ghosts}
 use Rattle.plain_volume.specs.Volume.{Volume}
 use Rattle.volume_inside.specs.Shows.{Area}
 use Rattle.volume_tables.specs.Tables as tables
-use Rattle.volume_files.specs.Sound as files
+use Rattle.volume_tables.specs.Sound as files
 use Rattle.volume_core.specs.declared.volume.Volume.{Volume as Mounted}
 
 module _ {D : Type 0} {d : Ghosts D} where

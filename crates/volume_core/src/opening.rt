@@ -13,7 +13,7 @@ ghost use Rattle.volume_inside.specs.Shows.{Kept, ShowsEither};
 ghost use Rattle.volume_inside.specs.View.{view};
 ghost use Rattle.volume_tables.specs.Formats.{IsFormatFault, IsMakeImage};
 ghost use Rattle.volume_tables.specs.Mount.{read_meta, IsMountFault};
-ghost use Rattle.volume_files.specs.Wants.{IsReplied};
+ghost use Rattle.volume_tables.specs.Wants.{IsReplied};
 
 use crate::volume::Volume;
 use plain_volume::Fault;

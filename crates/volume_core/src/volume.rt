@@ -1,6 +1,6 @@
 //! A volume over a disk.
 
-ghost use Rattle.volume_files.specs.Sound.{IsSound};
+ghost use Rattle.volume_tables.specs.Sound.{IsSound};
 ghost use Rattle.volume_core.specs.Sound.{sound_prop};
 
 use vdisk::Disk;

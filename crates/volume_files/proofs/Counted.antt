@@ -27,7 +27,7 @@ use Rattle.volume_tables.specs.declared.tables.Tables.{Tables}
 use Rattle.volume_tables.proofs.Answers.{as_true}
 use Rattle.volume_tables.proofs.Deferring.{rest_used, held_used_once}
 use Rattle.volume_tables.proofs.Leaving.{found_used}
-use Rattle.volume_files.specs.Stages.{clusters_known}
+use Rattle.volume_tables.specs.Stages.{clusters_known}
 
 -- ---- states
 

@@ -37,10 +37,10 @@ use Rattle.volume_inside.proofs.Removed.{rules_deleted}
 use Rattle.volume_tables.specs.Tables.{tables_now, inside_now, view_now, states_of, disk_of, clusters_in, stopped}
 use Rattle.volume_tables.specs.Tables.{staged_of, Leaves}
 use Rattle.volume_tables.specs.declared.tables.Tables.{Tables}
+use Rattle.volume_tables.specs.Sound.{IsSound}
+use Rattle.volume_tables.specs.Stages.{Stages}
 use Rattle.volume_files.specs.Found.{IsFileOf}
 use Rattle.volume_files.specs.Names.{is_other, without_name}
-use Rattle.volume_files.specs.Sound.{IsSound}
-use Rattle.volume_files.specs.Stages.{Stages}
 use Rattle.volume_files.proofs.CutExtents.{range_is_behind}
 use Rattle.volume_files.proofs.Found.{names_in_order}
 use Rattle.volume_files.proofs.OneName.{only_name}

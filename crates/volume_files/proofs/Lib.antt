@@ -1,7 +1,6 @@
 pub mod Overwritten
 pub mod States
 pub mod Extents
-pub mod Endured
 pub mod Found
 pub mod Taking
 pub mod Setting
@@ -9,14 +8,10 @@ pub mod BlockSet
 pub mod Touched
 pub mod NewFile
 pub mod ReadBytes
-pub mod Rereads
-pub mod Wanted
 pub mod Counted
 pub mod CutExtents
 pub mod CutCells
-pub mod Stagings
 pub mod Resized
-pub mod Finished
 pub mod OneName
 pub mod GoneFile
 pub mod OtherName
@@ -26,3 +21,4 @@ pub mod Spent
 pub mod Insides
 pub mod ReadFirst
 pub mod Ahead
+pub mod Missing

@@ -38,9 +38,9 @@ use Rattle.volume_tables.proofs.Answers.{ok_or_err}
 use Rattle.volume_tables.specs.Tables.{tables_now, inside_now, view_now, states_of, disk_of, clusters_in, stopped}
 use Rattle.volume_tables.specs.Tables.{Leaves}
 use Rattle.volume_tables.specs.declared.tables.Tables.{Tables}
+use Rattle.volume_tables.specs.Sound.{IsSound}
+use Rattle.volume_tables.specs.Wants.{last_id}
 use Rattle.volume_files.specs.Names.{empty_file, with_new, IsNewName, IsRefused}
-use Rattle.volume_files.specs.Sound.{IsSound}
-use Rattle.volume_files.specs.Wants.{last_id}
 use Rattle.volume_files.proofs.Found.{names_in_order, length_of_view}
 
 -- ---- the record of a file that was just put, above all others, is dropped

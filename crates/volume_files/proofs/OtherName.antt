@@ -33,9 +33,9 @@ use Rattle.volume_inside.proofs.Views.{sorted-named}
 use Rattle.volume_tables.proofs.Answers.{ok_or_err}
 use Rattle.volume_tables.specs.Tables.{tables_now, inside_now, view_now, disk_of, clusters_in}
 use Rattle.volume_tables.specs.declared.tables.Tables.{Tables}
+use Rattle.volume_tables.specs.Sound.{IsSound}
+use Rattle.volume_tables.specs.Stages.{Stages}
 use Rattle.volume_files.specs.Names.{is_other, with_renamed, IsRenaming, IsRefused}
-use Rattle.volume_files.specs.Sound.{IsSound}
-use Rattle.volume_files.specs.Stages.{Stages}
 use Rattle.volume_files.proofs.Found.{names_in_order}
 use Rattle.volume_files.proofs.OneName.{only_name}
 

@@ -1,13 +1,13 @@
 -- Bytes of a file, read piece by piece.
-use Rattle.std.specs.Prelude.{◌≡◌, ◌≤◌, ◌<◌, ◌+◌, ◌-◌, ◌/◌, ◌%◌, ℕ, suc, zero, min, List, [], ◌∷◌, ◌++◌, length, take, drop, replicate, get_or, true, false, cond, Option, Some, None, refl}
-use Rattle.std.proofs.Common.{sym, ◌∙◌, ap, inl, inr, arith, length-take, length-drop, length-append}
+use Rattle.std.specs.Prelude.{◌≡◌, ◌≤◌, ◌<◌, ◌+◌, ◌*◌, ◌-◌, ◌/◌, ◌%◌, ℕ, suc, zero, List, [], ◌∷◌, ◌++◌, length, take, drop, replicate, get_or, true, false, cond, Option, Some, None, IfSome, IsSomeAnd, refl}
+use Rattle.std.proofs.Common.{sym, ◌∙◌, ap, inl, inr, arith, length-take, length-drop}
 use Rattle.std.specs.Option.{option_map}
 use Rattle.std.specs.Ordering.{nat_cmp, eq_by_cmp}
 use Rattle.std.specs.FinMap.{find, nat_cmp-IsAntisymmetric}
 use Rattle.std.proofs.lemmas.Bool.{cases_lt}
-use Rattle.std.proofs.lemmas.List.{get_or-take, get_or-drop, get_or_past, get_or_append_left, get_or-append_right, get_or-replicate, ext_get_or, length-take-le, length-replicate, drop_at}
+use Rattle.std.proofs.lemmas.Map.Lookups.{exact_pairs, exact_unsigned}
+use Rattle.std.proofs.lemmas.List.{get_or-take, get_or-drop, get_or_past, get_or_append_left, get_or-append_right, get_or-replicate, ext_get_or, length-take-le, length-replicate}
 use Rattle.std.proofs.lemmas.List.FromFn.{get_or-map-range_with_len, length-map-range_with_len}
-use borrow.Rule.Slice.PartMut.{put_mid, post_of}
 use Rattle.vdisk.specs.Ranges.{part}
 use Rattle.plain_volume.specs.Volume.{Cell, Byte, Lost, bytes_of}
 use Rattle.table_records.specs.Keys.{pair_cmp}
@@ -16,10 +16,11 @@ use Rattle.table_records.specs.declared.records.Extent.{Extent}
 use Rattle.volume_inside.specs.Typed.{Typed, FileBlock}
 use Rattle.volume_inside.specs.Bases.{base_cell, uncovered_cell}
 use Rattle.volume_inside.specs.Entries.{each_found}
-use Rattle.volume_inside.specs.Inside.{Inside, inside_at, block_of, blocks_of}
-use Rattle.volume_inside.specs.Rules.{FileHolds, RulesHold}
+use Rattle.volume_inside.specs.Inside.{Inside, inside_at, block_of, blocks_of, cluster_bytes}
+use Rattle.volume_inside.specs.Rules.{FileHolds, ExtentHolds, ExtentsHold, RulesHold}
 use Rattle.volume_inside.specs.View.{cell, cell_in, cells, cells_or_none, file_cells}
 use Rattle.volume_files.specs.Reads.{byte_in, byte_at}
+use Rattle.volume_files.specs.Stretches.{HasBytes}
 
 -- ---- bytes of cells
 
@@ -112,86 +113,6 @@ module _ (n : ℕ) (t : Typed) (image : List ℕ) (rules : RulesHold n t) (id at
           let size = length-map-range_with_len (cell (inside_at t image) id file) 0 file.length in
           all_read (inside_at t image) id at count file holds.no_cover (omega (arith, within, size)) out long read
 
--- ---- one piece
-
--- bytes of a block in `front`, as many as there are and are asked for, and zeros behind them
-extent_read : (cluster front back : List ℕ) (valid from held n : ℕ) → from + n ≤ 4096
-    → held ≡ min (valid - from) n → length cluster ≡ 4096 → valid ≤ 4096 → front ≡ take held (drop from cluster)
-    → ((k : ℕ) → get_or back k 0 ≡ 0) → (k : ℕ) → k < n
-    → get_or (front ++ back) k 0 ≡ get_or (take valid cluster) (from + k) 0
-extent_read cluster front back valid from held n fits held_is size short front_is zeros k low = elim (cases_lt k held) [
-  | inl inside ↦
-      let there : k < length front = omega (arith, inside, front_long) in
-      let valid_there : from + k < valid = omega (arith, inside, held_is) in
-      get_or_append_left front back 0 k there
-      ∙ ap (λ (xs : List ℕ). get_or xs k 0) front_is
-      ∙ get_or-take held (drop from cluster) k 0 inside
-      ∙ get_or-drop from cluster k 0
-      ∙ sym (get_or-take valid cluster (from + k) 0 valid_there)
-  | inr behind ↦
-      let past : valid ≤ from + k = omega (arith, behind, held_is, low) in
-      get_or-append_right front back held k 0 front_long behind
-      ∙ zeros (k - held)
-      ∙ sym (get_or_past (take valid cluster) (from + k) 0 (omega (arith, past, length-take valid cluster)))
-]
-  where
-    front_long : length front ≡ held
-    front_long = ap length front_is
-        ∙ omega (arith, length-take held (drop from cluster), length-drop from cluster, size, held_is, fits, short)
-
--- zeros and nothing behind them
-zeros_alone : (m : ℕ) (filled post : List ℕ) → filled ≡ replicate m 0 → length post ≡ 0 → (k : ℕ)
-    → get_or (filled ++ post) k 0 ≡ 0
-zeros_alone m filled post is none k = elim (cases_lt k m) [
-  | inl inside ↦
-      let there : k < length filled = omega (arith, inside, size) in
-      get_or_append_left filled post 0 k there ∙ ap (λ (xs : List ℕ). get_or xs k 0) is
-      ∙ get_or-replicate m k 0 0 inside
-  | inr past ↦ get_or_past (filled ++ post) k 0 (omega (arith, past, size, none, length-append filled post))
-]
-  where
-    size : length filled ≡ m
-    size = ap length is ∙ length-replicate m 0
-
--- room for bytes, of which the first ones are to be read from a cluster, once zeros stand behind them
-module _ (cluster out filled : List ℕ) (valid from held : ℕ) (fits : from + length out ≤ 4096)
-    (held_is : held ≡ min (valid - from) (length out)) (size : length cluster ≡ 4096) (short : valid ≤ 4096)
-    (zeros : filled ≡ replicate (length (take (length out - held) (drop held out))) 0) where
-  abbrev post : List ℕ
-  post = post_of held (length out - held) out
-
-  none_behind : length post ≡ 0
-  none_behind = omega (arith, length-drop (length out - held) (drop held out), length-drop held out)
-
-  filled_zeros : (k : ℕ) → get_or (filled ++ post) k 0 ≡ 0
-  filled_zeros = zeros_alone (length (take (length out - held) (drop held out))) filled post zeros none_behind
-
-  front_size : length (take held out) ≡ held
-  front_size = length-take-le held out (omega (arith, held_is))
-
-  -- nothing is to be read
-  pub none_read : held ≡ 0 → (k : ℕ) → k < length out
-      → get_or (put_mid held (length out - held) out filled) k 0 ≡ get_or (take valid cluster) (from + k) 0
-  none_read none = extent_read cluster (take held out) (filled ++ post) valid from held
-      (length out) fits held_is size short
-      (ap (λ (j : ℕ). take j out) none ∙ sym (ap (λ (j : ℕ). take j (drop from cluster)) none)) filled_zeros
-
-  -- the first bytes are read
-  pub front_read : (front : List ℕ)
-      → front ≡ part from (length (take held (put_mid held (length out - held) out filled))) cluster
-      → (k : ℕ) → k < length out
-      → get_or (front ++ drop held (put_mid held (length out - held) out filled)) k 0 ≡ get_or (take valid cluster)
-      (from + k) 0
-  front_read front is =
-      let room : length (take held (put_mid held (length out - held) out filled)) ≡ held =
-      length-take-le held (put_mid held (length out - held) out filled)
-      (omega (arith, front_size, length-append (take held out) (filled ++ post))) in
-      extent_read cluster front (drop held (put_mid held (length out - held) out filled)) valid from held
-      (length out) fits held_is size short
-      (is ∙ ap (λ (j : ℕ). take j (drop from cluster)) room)
-      (λ k. ap (λ (xs : List ℕ). get_or xs k 0) (drop_at (take held out) (filled ++ post) held front_size)
-      ∙ filled_zeros k)
-
 -- ---- blocks
 
 -- the block of a key is that of its extent
@@ -218,27 +139,134 @@ of_block k t image e o found =
     ap (λ (b : Option (List ℕ)). byte_in b o)
     (find-blocks k t.extents image ∙ ap (option_map (λ x. block_of x image)) found)
 
--- a piece is put behind those before it
-pub piece_read : (i : Inside) (id at done count : ℕ) (out piece rest : List ℕ) → done ≤ length out
-    → length piece ≡ count
-    → (at + done) % 4096 + count ≤ 4096 → ((k : ℕ) → k < done → get_or out k 0 ≡ byte_at i id (at + k))
-    → ((k : ℕ) → k < count → get_or piece k 0 ≡ byte_in (find pair_cmp (id, (at + done) / 4096) i.blocks)
-    ((at + done) % 4096 + k))
-    → (k : ℕ) → k < done + count → get_or (take done out ++ (piece ++ rest)) k 0 ≡ byte_at i id (at + k)
-piece_read i id at done count out piece rest within long one_block before here k low = elim (cases_lt k done) [
+-- a byte that the extent of a block names, and one that it does not
+module _ (t : Typed) (image : List ℕ) (k : FileBlock) (e : Extent) (o : ℕ) (found : find pair_cmp k t.extents ≡ Some e) where
+  pub named_byte : o < e.valid → e.valid ≤ 4096
+      → byte_in (find pair_cmp k (inside_at t image).blocks) o ≡ get_or image (4096 * e.cluster + o) 0
+  named_byte low fits =
+      of_block k t image e o found
+      ∙ get_or-take e.valid (cluster_bytes e.cluster image) o 0 low
+      ∙ get_or-take 4096 (drop (4096 * e.cluster) image) o 0 (omega (arith, low, fits))
+      ∙ get_or-drop (4096 * e.cluster) image o 0
+
+  unnamed_byte : e.valid ≤ o → byte_in (find pair_cmp k (inside_at t image).blocks) o ≡ 0
+  unnamed_byte behind =
+      of_block k t image e o found
+      ∙ get_or_past (take e.valid (cluster_bytes e.cluster image)) o 0
+      (omega (arith, behind, length-take e.valid (cluster_bytes e.cluster image)))
+
+-- a byte that no extent names is zero
+pub zero_byte : (t : Typed) (image : List ℕ) (k : FileBlock) (found : Option Extent) (o : ℕ)
+    → found ≡ find pair_cmp k t.extents → IfSome found (λ e. e.valid ≤ o)
+    → byte_in (find pair_cmp k (inside_at t image).blocks) o ≡ 0
+zero_byte t image k None o is behind = no_block k t image o (sym is)
+zero_byte t image k (Some e) o is behind = unnamed_byte t image k e o (sym is) behind
+
+-- ---- stretches
+
+-- what the rules say of an extent
+pub extent_found : (n : ℕ) (t : Typed) (k : FileBlock) (e : Extent) → find pair_cmp k t.extents ≡ Some e
+    → ExtentsHold n t → ExtentHolds n t k e
+extent_found n t k e found hold =
+    each_found pair_cmp (exact_pairs nat_cmp nat_cmp exact_unsigned exact_unsigned) (ExtentHolds n t) k e t.extents
+    found hold
+
+-- bytes of a file from a place on lie on the disk from another place on
+abbrev pub Lie : Inside → List ℕ → ℕ → ℕ → ℕ → ℕ → Type 0
+Lie i image file place start count = (k : ℕ) → k < count → byte_at i file (place + k) ≡ get_or image (start + k) 0
+
+module _ (t : Typed) (image : List ℕ) (file place : ℕ) (e : Extent) (fits : e.valid ≤ 4096) where
+  pub lie_first : (count : ℕ) → find pair_cmp (file, place / 4096) t.extents ≡ Some e
+      → place % 4096 + count ≤ e.valid
+      → Lie (inside_at t image) image file place (4096 * e.cluster + place % 4096) count
+  lie_first count found within k low =
+      let block : (place + k) / 4096 ≡ place / 4096 = omega (arith, within, low, fits) in
+      let offset : (place + k) % 4096 ≡ place % 4096 + k = omega (arith, within, low, fits) in
+      let at : 4096 * e.cluster + (place % 4096 + k) ≡ 4096 * e.cluster + place % 4096 + k = omega arith in
+      (λ j. byte_in (find pair_cmp (file, block j) (inside_at t image).blocks) (offset j))
+      ∙ named_byte t image (file, place / 4096) e (place % 4096 + k) found (omega (arith, within, low)) fits
+      ∙ ap (λ (p : ℕ). get_or image p 0) at
+
+  -- so do those of a block beside them
+  pub lie_further : (start count more : ℕ) → find pair_cmp (file, (place + count) / 4096) t.extents ≡ Some e
+      → (place + count) % 4096 ≡ 0 → 4096 * e.cluster ≡ start + count → more ≤ e.valid
+      → Lie (inside_at t image) image file place start count
+      → Lie (inside_at t image) image file place start (count + more)
+  lie_further start count more found whole beside within before k low = elim (cases_lt k count) [
+    | inl less ↦ before k less
+    | inr later ↦
+        let block : (place + k) / 4096 ≡ (place + count) / 4096 = omega (arith, whole, within, low, later, fits) in
+        let offset : (place + k) % 4096 ≡ k - count = omega (arith, whole, within, low, later, fits) in
+        let at : 4096 * e.cluster + (k - count) ≡ start + k = omega (arith, beside, later) in
+        (λ j. byte_in (find pair_cmp (file, block j) (inside_at t image).blocks) (offset j))
+        ∙ named_byte t image (file, (place + count) / 4096) e (k - count) found (omega (arith, low, later, within)) fits
+        ∙ ap (λ (p : ℕ). get_or image p 0) at
+  ]
+
+-- a stretch goes on with the block whose extent names what lies behind it
+pub next_beside : (n : ℕ) (t : Typed) (image : List ℕ) (file place start count beside more : ℕ) (next : Option Extent)
+    → next ≡ find pair_cmp (file, (place + count) / 4096) t.extents
+    → IsSomeAnd next (λ e. (e.valid ≡ beside) × (4096 * e.cluster ≡ start + count)) → ExtentsHold n t
+    → (place + count) % 4096 ≡ 0 → more ≤ beside → Lie (inside_at t image) image file place start count
+    → (beside ≤ 4096) × (start + (count + more) ≤ 4096 * n)
+    × Lie (inside_at t image) image file place start (count + more)
+next_beside n t image file place start count beside more None is none hold whole within before = absurd none
+next_beside n t image file place start count beside more (Some e) is named hold whole within before =
+    let holds = extent_found n t (file, (place + count) / 4096) e (sym is) hold in
+    let valid = named.0 in
+    let at = named.1 in
+    let fits = holds.in_cluster in
+    let last = holds.in_data.within in (
+      omega (arith, valid, fits),
+      omega (arith, at, last, within, valid, fits),
+      lie_further t image file place e fits start count more (sym is) whole at (omega (arith, within, valid)) before,
+    )
+
+-- bytes that were read from where those of a file lie
+pub lying_read : (i : Inside) (image piece rest : List ℕ) (file place start count : ℕ) → length piece ≡ count
+    → piece ≡ part start count image → Lie i image file place start count → HasBytes i file place count (piece ++ rest)
+lying_read i image piece rest file place start count long read lie k low =
+    get_or_append_left piece rest 0 k (omega (arith, low, long))
+    ∙ ap (λ (xs : List ℕ). get_or xs k 0) read
+    ∙ get_or-take count (drop start image) k 0 low
+    ∙ get_or-drop start image k 0
+    ∙ sym (lie k low)
+
+-- zeros in the place of bytes that no extent names
+pub zeros_read : (t : Typed) (image piece rest : List ℕ) (file place count : ℕ) (found : Option Extent)
+    → piece ≡ replicate count 0 → place % 4096 + count ≤ 4096
+    → found ≡ find pair_cmp (file, place / 4096) t.extents → IfSome found (λ e. e.valid ≤ place % 4096)
+    → HasBytes (inside_at t image) file place count (piece ++ rest)
+zeros_read t image piece rest file place count found zeros within is behind k low =
+    let long : length piece ≡ count = ap length zeros ∙ length-replicate count 0 in
+    let block : (place + k) / 4096 ≡ place / 4096 = omega (arith, within, low) in
+    let offset : (place + k) % 4096 ≡ place % 4096 + k = omega (arith, within, low) in
+    get_or_append_left piece rest 0 k (omega (arith, low, long))
+    ∙ ap (λ (xs : List ℕ). get_or xs k 0) zeros
+    ∙ get_or-replicate count k 0 0 low
+    ∙ sym (zero_byte t image (file, place / 4096) found (place % 4096 + k) is (further found behind))
+    ∙ sym (λ j. byte_in (find pair_cmp (file, block j) (inside_at t image).blocks) (offset j))
+  where
+    further : (o : Option Extent) → IfSome o (λ e. e.valid ≤ place % 4096) → IfSome o (λ e. e.valid ≤ place % 4096 + k)
+    further None behind = tt
+    further (Some e) behind = omega (arith, behind)
+
+-- a stretch is put behind the bytes before it
+pub stretch_behind : (i : Inside) (file at done count : ℕ) (out piece rest : List ℕ) → done ≤ length out
+    → count ≤ length piece → ((k : ℕ) → k < done → get_or out k 0 ≡ byte_at i file (at + k))
+    → HasBytes i file (at + done) count piece
+    → (k : ℕ) → k < done + count → get_or (take done out ++ (piece ++ rest)) k 0 ≡ byte_at i file (at + k)
+stretch_behind i file at done count out piece rest within long before here k low = elim (cases_lt k done) [
   | inl less ↦
       let there : k < length (take done out) = omega (arith, less, front_long) in
       get_or_append_left (take done out) (piece ++ rest) 0 k there ∙ get_or-take done out k 0 less ∙ before k less
   | inr more ↦
-      let j = k - done in
-      let lower : j < count = omega (arith, low, more) in
-      let there : j < length piece = omega (arith, lower, long) in
-      let block : (at + done) / 4096 ≡ (at + k) / 4096 = omega (arith, one_block, lower, more) in
-      let place : (at + done) % 4096 + j ≡ (at + k) % 4096 = omega (arith, one_block, lower, more) in
+      let lower : k - done < count = omega (arith, low, more) in
+      let place : at + done + (k - done) ≡ at + k = omega (arith, more) in
       get_or-append_right (take done out) (piece ++ rest) done k 0 front_long more
-      ∙ get_or_append_left piece rest 0 j there
-      ∙ here j lower
-      ∙ (λ m. byte_in (find pair_cmp (id, block m) i.blocks) (place m))
+      ∙ get_or_append_left piece rest 0 (k - done) (omega (arith, lower, long))
+      ∙ here (k - done) lower
+      ∙ ap (byte_at i file) place
 ]
   where
     front_long : length (take done out) ≡ done

@@ -23,10 +23,10 @@ use Rattle.volume_inside.specs.Typed.{Typed}
 use Rattle.volume_inside.specs.View.{file_cells, view}
 use Rattle.volume_tables.specs.Tables.{tables_now, inside_now, view_now, disk_of, clusters_in, stopped}
 use Rattle.volume_tables.specs.declared.tables.Tables.{Tables}
+use Rattle.volume_tables.specs.Sound.{IsSound}
+use Rattle.volume_tables.specs.Stages.{Stages}
 use Rattle.volume_files.specs.Found.{IsFileOf}
 use Rattle.volume_files.specs.Lengths.{resized_in}
-use Rattle.volume_files.specs.Sound.{IsSound}
-use Rattle.volume_files.specs.Stages.{Stages}
 use Rattle.volume_files.proofs.Counted.{extents_in_order}
 use Rattle.volume_files.proofs.CutCells.{view_resized}
 use Rattle.volume_files.proofs.CutExtents.{rules_resized}

@@ -18,10 +18,10 @@ use Rattle.volume_inside.specs.Rules.{id_after, next_id_of}
 use Rattle.volume_inside.specs.Typed.{Typed, FileBlock}
 use Rattle.volume_tables.specs.Tables.{tables_now}
 use Rattle.volume_tables.specs.declared.tables.Tables.{Tables}
+use Rattle.volume_tables.specs.Spending.{Spends}
 use Rattle.volume_files.specs.Lengths.{cut_extent, with_extent_if, end_cut, lies_behind, cut_if, resized_in}
 use Rattle.volume_files.specs.Names.{with_new, with_renamed, without_name}
 use Rattle.volume_files.specs.Needs.{touched, touched_at}
-use Rattle.volume_files.specs.Spending.{Spends}
 use Rattle.volume_files.proofs.CutExtents.{cut_means}
 use Rattle.volume_files.proofs.Extents.{length-clusters, count_put_new, count_put_over}
 use Rattle.volume_files.proofs.Setting.{sorted_now}

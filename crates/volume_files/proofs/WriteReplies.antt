@@ -24,12 +24,12 @@ use Rattle.volume_inside.specs.View.{cell, cells_or_none, file_cells}
 use Rattle.volume_inside.specs.Rules.{RulesHold}
 use Rattle.volume_tables.specs.Tables.{tables_now, stopped, IsTables}
 use Rattle.volume_tables.specs.declared.tables.Tables.{Tables}
+use Rattle.volume_tables.specs.Sound.{IsKept, Endures}
+use Rattle.volume_tables.specs.Wants.{is_late, wanting, IsRepliedOrMemory}
+use Rattle.volume_tables.proofs.Wanted.{replied_done}
 use Rattle.volume_files.specs.Needs.{write_needs}
-use Rattle.volume_files.specs.Sound.{IsKept, Endures}
-use Rattle.volume_files.specs.Wants.{is_late, wanting, IsRepliedOrMemory}
 use Rattle.volume_files.specs.Writing.{named_bytes, write_wants, IsWritten, AreWritten}
 use Rattle.volume_files.proofs.Touched.{cell_named}
-use Rattle.volume_files.proofs.Wanted.{replied_done}
 use Rattle.volume_files.proofs.Written.{no_cover}
 
 -- ---- no cell is lost

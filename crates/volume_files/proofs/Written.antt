@@ -24,7 +24,7 @@ use Rattle.volume_inside.proofs.Cells.{map_same}
 use Rattle.volume_inside.proofs.Lawfuls.{rules_with_file}
 use Rattle.volume_tables.specs.Tables.{tables_now, inside_now, disk_of, states_of, stopped}
 use Rattle.volume_tables.specs.declared.tables.Tables.{Tables}
-use Rattle.volume_files.specs.Sound.{IsSound}
+use Rattle.volume_tables.specs.Sound.{IsSound}
 use Rattle.volume_files.specs.Writing.{named_bytes, laid_from, reaching, AreExtentsSet, IsWritten, LosesNone}
 use Rattle.volume_files.specs.Writing.{accounted}
 use Rattle.volume_files.proofs.BlockSet.{found_file}

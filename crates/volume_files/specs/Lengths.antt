@@ -12,8 +12,8 @@ use Rattle.volume_inside.specs.Typed.{Typed, FileBlock}
 use Rattle.volume_inside.specs.Changes.{with_file, with_extent, keep_extents}
 use Rattle.volume_tables.specs.Tables.{tables_now}
 use Rattle.volume_tables.specs.declared.tables.Tables.{Tables}
+use Rattle.volume_tables.specs.Wants.{wanting}
 use Rattle.volume_files.specs.Needs.{length_needs}
-use Rattle.volume_files.specs.Wants.{wanting}
 
 -- the extent of a block of which so many bytes are left, where these are fewer than it has, and some
 abbrev pub cut_extent : ℕ → Option Extent → Option Extent

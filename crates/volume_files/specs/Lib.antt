@@ -1,12 +1,9 @@
-pub mod Sound
-pub mod Wants
 pub mod Needs
 pub mod Writing
 pub mod Found
 pub mod Names
 pub mod Reads
+pub mod Stretches
 pub mod Lengths
-pub mod Stages
-pub mod Spending
 pub mod Insides
 pub mod Rows

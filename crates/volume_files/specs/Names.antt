@@ -13,7 +13,7 @@ use Rattle.volume_inside.specs.Entries.{Each}
 use Rattle.volume_inside.specs.Changes.{created, deleted, renamed}
 use Rattle.volume_inside.specs.Rules.{next_id_of}
 use Rattle.volume_inside.specs.Typed.{Typed}
-use Rattle.volume_files.specs.Wants.{is_late}
+use Rattle.volume_tables.specs.Wants.{is_late}
 
 -- the record of a file of no bytes
 abbrev pub empty_file : FileRecord

@@ -5,7 +5,7 @@ use Rattle.std.specs.FinMap.{find}
 use Rattle.table_records.specs.Keys.{pair_cmp}
 use Rattle.table_records.specs.declared.records.Extent.{Extent}
 use Rattle.volume_inside.specs.Typed.{Typed}
-use Rattle.volume_files.specs.Wants.{Needs}
+use Rattle.volume_tables.specs.Wants.{Needs}
 
 -- a new file: an id, a record of the file and one of its name; the record of the file may be taken back
 abbrev pub create_needs : List ℕ → Needs

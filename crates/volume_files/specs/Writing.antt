@@ -20,8 +20,8 @@ use Rattle.volume_inside.specs.Layout.{IsDataCluster}
 use Rattle.volume_inside.specs.Named.{clusters_of}
 use Rattle.volume_tables.specs.Tables.{tables_now, states_of, stopped}
 use Rattle.volume_tables.specs.declared.tables.Tables.{Tables}
+use Rattle.volume_tables.specs.Wants.{wanting}
 use Rattle.volume_files.specs.Needs.{write_needs}
-use Rattle.volume_files.specs.Wants.{wanting}
 
 -- ---- bytes
 

@@ -277,15 +277,17 @@ fn write_ahead<D: Disk>(
     write_alone(tables, was, start, at, bytes)
 }
 
-/// Takes a free cluster and names it as the block of a key, of which `valid` bytes are the file's. Answers the new
-/// extent.
+/// Takes a free cluster and names it as the block of a key, of which `valid` bytes are the file's; the key's extent was
+/// `was`. Answers the new extent.
 fn name_block<D: Disk>(
     tables: &mut Tables<D>,
     key: (u64, u32),
+    was: Option<Extent>,
     cluster: u32,
     valid: u16,
 ) -> Result<Extent, Fault>
     requires running { stopped tables.old ≡ false }
+    requires is { was ≡ find pair_cmp key (tables_now tables.old).extents }
     requires some { HasState tables.old.clusters (states_of tables.old) Free cluster }
     requires room { staged_of tables.old + 24 ≤ 65472 }
     requires fits { checkpoint_of tables.old + new_bytes (find pair_cmp key (tables_now tables.old).extents) 24
@@ -316,7 +318,7 @@ fn name_block<D: Disk>(
 {
     tables.take_free(cluster);
     let extent = Extent { cluster, valid };
-    tables.set_extent(key, extent)?;
+    tables.set_extent(key, was, extent)?;
     Ok(extent)
 }
 
@@ -390,7 +392,7 @@ pub(crate) fn write_block<D: Disk>(
     let start = BLOCK * key.1 as u64;
     let ready = write_ahead(tables, was, start, at, bytes, ahead)?;
     let valid = BLOCK.min(grown.length - start) as u16;
-    let extent = name_block(tables, key, ready.first, valid)?;
+    let extent = name_block(tables, key, was, ready.first, valid)?;
     Ok(Written {
         extent,
         ahead: Run {

@@ -1,6 +1,6 @@
 //! The blocks of a file that bytes touch are made anew, all of them or none.
 
-ghost use Rattle.std.specs.Prelude.{◌≡◌, ◌⊎◌, ◌≤◌, ◌<◌, ◌+◌, ◌*◌, ℕ, T, length, true, false, IsSome, OnOk, OnErr};
+ghost use Rattle.std.specs.Prelude.{◌≡◌, ◌⊎◌, ◌≤◌, ◌<◌, ◌+◌, ◌*◌, ℕ, T, length, true, false, OnOk, OnErr};
 ghost use Rattle.std.specs.Prelude.{IsErrOf, Some};
 ghost use Rattle.std.specs.FinMap.{find, is_sorted};
 ghost use Rattle.vdisk.specs.Causes.{Rose};
@@ -19,9 +19,9 @@ ghost use Rattle.volume_tables.specs.Clusters.{HasState};
 ghost use Rattle.volume_tables.specs.Frames.{AreFree, NamesNoFree};
 ghost use Rattle.volume_tables.specs.Tables.{tables_now, inside_now, states_of, staged_of, checkpoint_of, disk_of};
 ghost use Rattle.volume_tables.specs.Tables.{stopped, IsTables, Leaves};
+ghost use Rattle.volume_tables.specs.Spending.{Spends};
 ghost use Rattle.volume_files.specs.Insides.{blocks_written, with_blocks};
 ghost use Rattle.volume_files.specs.Needs.{missing};
-ghost use Rattle.volume_files.specs.Spending.{Spends};
 ghost use Rattle.volume_files.specs.Writing.{blocks_up_to, laid_from, AreAhead, AreExtentsSet, AreFilled, LosesNone, ReadsFirst};
 
 use crate::block::{BLOCK, write_block};
@@ -30,11 +30,12 @@ use plain_volume::Fault;
 use vdisk::Disk;
 use volume_tables::{Extent, FileRecord, Tables};
 
-/// Gives a key, which has an extent, the one that it had before, or none. The cluster of the one before is deferred.
-fn take_back<D: Disk>(tables: &mut Tables<D>, key: (u64, u32), was: Option<Extent>)
+/// Gives a key, which has the extent `named`, the one that it had before, or none. The cluster of the one before is
+/// deferred.
+fn take_back<D: Disk>(tables: &mut Tables<D>, key: (u64, u32), named: Extent, was: Option<Extent>)
     requires room { staged_of tables.old + 31 ≤ 65472 }
     requires low { key.1 < 1048576 }
-    requires there { IsSome (find pair_cmp key (tables_now tables.old).extents) }
+    requires there { find pair_cmp key (tables_now tables.old).extents ≡ Some named }
     requires deferred { (o : Extent) → was ≡ Some o →
         HasState tables.old.clusters (states_of tables.old) Deferred o.cluster }
     ensures tables { (t : Typed) (e : Extent) → T (is_sorted pair_cmp t.extents) → find pair_cmp key t.extents ≡ was →
@@ -50,7 +51,7 @@ fn take_back<D: Disk>(tables: &mut Tables<D>, key: (u64, u32), was: Option<Exten
 {
     match was {
         None => tables.drop_extent(key, Some((key.0, key.1 + 1))),
-        Some(extent) => tables.set_extent(key, extent).unwrap(),
+        Some(extent) => tables.set_extent(key, Some(named), extent).unwrap(),
     }
 }
 
@@ -117,7 +118,7 @@ pub(crate) fn write_blocks<D: Disk>(
     match write_blocks(tables, file, grown, at, bytes, index + 1, written.ahead) {
         Ok(()) => Ok(()),
         Err(fault) => {
-            take_back(tables, key, was);
+            take_back(tables, key, written.extent, was);
             Err(fault)
         }
     }

@@ -7,18 +7,17 @@ ghost use Rattle.volume_inside.specs.Layout.{half_bytes};
 ghost use Rattle.volume_inside.specs.Rules.{RulesHold, next_id_of};
 ghost use Rattle.volume_tables.specs.Tables.{clusters_in, tables_now, inside_now, view_now, states_of, staged_of};
 ghost use Rattle.volume_tables.specs.Tables.{checkpoint_of, disk_of, stopped, Leaves};
+ghost use Rattle.volume_tables.specs.Sound.{IsSound, Endures, Spares};
+ghost use Rattle.volume_tables.specs.Spending.{Spends};
+ghost use Rattle.volume_tables.specs.Wants.{last_id, wanting, IsRepliedOrMemory};
 ghost use Rattle.volume_files.specs.Insides.{inside_created};
 ghost use Rattle.volume_files.specs.Names.{with_new, IsNewName, IsRefused};
 ghost use Rattle.volume_files.specs.Needs.{create_needs};
-ghost use Rattle.volume_files.specs.Sound.{IsSound, Endures};
-ghost use Rattle.volume_files.specs.Spending.{Spends};
-ghost use Rattle.volume_files.specs.Wants.{last_id, wanting, IsRepliedOrMemory};
 
-use crate::room::make_room;
 use plain_volume::limits::MOST_FILES;
 use plain_volume::{Fault, name_is_lawful};
 use vdisk::Disk;
-use volume_tables::{FileRecord, Tables};
+use volume_tables::{FileRecord, Tables, make_room};
 
 /// Whether a new file may have a name, or why not.
 fn check_new<D: Disk>(tables: &Tables<D>, name: &[u8]) -> Result<(), Fault>
@@ -88,6 +87,7 @@ pub fn create<D: Disk>(tables: &mut Tables<D>, name: &[u8]) -> Result<(), Fault>
     ensures spends { Spends 0 1 tables.old tables.new }
     ensures stops { stopped tables.new ≡ true → IsErrOf result Fault.Failed }
     ensures halts { IsErrOf result Fault.Failed → stopped tables.new ≡ true }
+    ensures spares { Spares tables.old tables.new result }
 {
     check_new(tables, name)?;
     make_room(tables, true, 52 + name.len() as u64, 93 + name.len(), 0)?;

@@ -9,19 +9,18 @@ ghost use Rattle.plain_volume.specs.Replies.{done_reply};
 ghost use Rattle.plain_volume.specs.declared.call.Call.TheVariants.{Delete};
 ghost use Rattle.volume_inside.specs.Changes.{keep_names};
 ghost use Rattle.volume_tables.specs.Tables.{tables_now, inside_now, view_now, staged_of, disk_of, stopped};
+ghost use Rattle.volume_tables.specs.Sound.{IsSound, Endures, Spares};
+ghost use Rattle.volume_tables.specs.Spending.{Spends};
+ghost use Rattle.volume_tables.specs.Stages.{Stages};
+ghost use Rattle.volume_tables.specs.Wants.{wanting, IsReplied};
 ghost use Rattle.volume_files.specs.Insides.{inside_deleted};
 ghost use Rattle.volume_files.specs.Names.{is_other, without_name, AreShort};
 ghost use Rattle.volume_files.specs.Needs.{delete_needs};
-ghost use Rattle.volume_files.specs.Sound.{IsSound, Endures};
-ghost use Rattle.volume_files.specs.Spending.{Spends};
-ghost use Rattle.volume_files.specs.Stages.{Stages};
-ghost use Rattle.volume_files.specs.Wants.{wanting, IsReplied};
 
 use crate::lookup::find_file;
-use crate::room::make_room;
 use plain_volume::Fault;
 use vdisk::Disk;
-use volume_tables::Tables;
+use volume_tables::{Tables, make_room};
 
 /// Copies the least name above another one, and tells its length, if there is one.
 fn copy_next<D: Disk>(tables: &Tables<D>, name: &[u8], out: &mut [u8; 255]) -> Option<usize>
@@ -89,6 +88,7 @@ pub fn delete<D: Disk>(tables: &mut Tables<D>, name: &[u8]) -> Result<(), Fault>
     ensures spends { Spends 0 0 tables.old tables.new }
     ensures stops { stopped tables.new ≡ true → IsErrOf result Fault.Failed }
     ensures halts { IsErrOf result Fault.Failed → stopped tables.new ≡ true }
+    ensures spares { Spares tables.old tables.new result }
 {
     let (id, _) = find_file(tables, name)?;
     make_room(tables, false, 0, 316 + name.len(), 0)?;

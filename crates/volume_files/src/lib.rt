@@ -12,8 +12,8 @@ mod lookup;
 mod reading;
 mod renaming;
 mod resizing;
-mod room;
 mod rows;
+mod stretches;
 mod writing;
 
 pub use creating::create;

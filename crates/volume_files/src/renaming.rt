@@ -9,19 +9,18 @@ ghost use Rattle.volume_inside.specs.Layout.{half_bytes};
 ghost use Rattle.volume_inside.specs.Rules.{RulesHold};
 ghost use Rattle.volume_tables.specs.Tables.{clusters_in, tables_now, inside_now, view_now, staged_of, checkpoint_of};
 ghost use Rattle.volume_tables.specs.Tables.{disk_of, stopped};
+ghost use Rattle.volume_tables.specs.Sound.{IsSound, Endures, Spares};
+ghost use Rattle.volume_tables.specs.Spending.{Spends};
+ghost use Rattle.volume_tables.specs.Stages.{Stages};
+ghost use Rattle.volume_tables.specs.Wants.{wanting, IsRepliedOrMemory};
 ghost use Rattle.volume_files.specs.Insides.{inside_renamed};
 ghost use Rattle.volume_files.specs.Names.{with_renamed, AreShort, IsRenaming, IsRefused};
 ghost use Rattle.volume_files.specs.Needs.{rename_needs};
-ghost use Rattle.volume_files.specs.Sound.{IsSound, Endures};
-ghost use Rattle.volume_files.specs.Spending.{Spends};
-ghost use Rattle.volume_files.specs.Stages.{Stages};
-ghost use Rattle.volume_files.specs.Wants.{wanting, IsRepliedOrMemory};
 
 use crate::deleting::drop_one_name;
-use crate::room::make_room;
 use plain_volume::{Fault, name_is_lawful};
 use vdisk::Disk;
-use volume_tables::Tables;
+use volume_tables::{Tables, make_room};
 
 /// The id of the file that gets another name, or why it does not.
 fn check_names<D: Disk>(tables: &Tables<D>, from: &[u8], to: &[u8]) -> Result<u64, Fault>
@@ -83,6 +82,7 @@ pub fn rename<D: Disk>(tables: &mut Tables<D>, from: &[u8], to: &[u8]) -> Result
     ensures spends { Spends 0 0 tables.old tables.new }
     ensures stops { stopped tables.new ≡ true → IsErrOf result Fault.Failed }
     ensures halts { IsErrOf result Fault.Failed → stopped tables.new ≡ true }
+    ensures spares { Spares tables.old tables.new result }
 {
     let id = check_names(tables, from, to)?;
     make_room(

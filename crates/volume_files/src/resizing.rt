@@ -8,22 +8,21 @@ ghost use Rattle.plain_volume.specs.Step.{plain, after};
 ghost use Rattle.plain_volume.specs.declared.call.Call.TheVariants.{SetLength};
 ghost use Rattle.table_records.specs.declared.records.FileRecord.{FileRecord};
 ghost use Rattle.volume_tables.specs.Tables.{tables_now, inside_now, view_now, disk_of, staged_of, stopped};
+ghost use Rattle.volume_tables.specs.Sound.{IsSound, Endures, Spares};
+ghost use Rattle.volume_tables.specs.Spending.{Spends};
+ghost use Rattle.volume_tables.specs.Stages.{Stages};
+ghost use Rattle.volume_tables.specs.Wants.{IsReplied};
 ghost use Rattle.volume_files.specs.Found.{IsFileOf};
 ghost use Rattle.volume_files.specs.Insides.{inside_resized};
 ghost use Rattle.volume_files.specs.Needs.{length_needs, set_at_end};
 ghost use Rattle.volume_files.specs.Lengths.{cut_extent, end_cut, cut_at, resized_in, length_wants};
-ghost use Rattle.volume_files.specs.Sound.{IsSound, Endures};
-ghost use Rattle.volume_files.specs.Spending.{Spends};
-ghost use Rattle.volume_files.specs.Stages.{Stages};
-ghost use Rattle.volume_files.specs.Wants.{IsReplied};
 
+use crate::block::BLOCK;
 use crate::lookup::find_file;
-use crate::reading::BLOCK;
-use crate::room::make_room;
 use plain_volume::Fault;
 use plain_volume::limits::MOST_BYTES_OF_A_FILE;
 use vdisk::Disk;
-use volume_tables::{Extent, FileRecord, Tables};
+use volume_tables::{Extent, FileRecord, Tables, make_room};
 
 /// The extent of the block in which a file of this length ends, cut to the file's end, if it has more bytes.
 fn cut_end_extent<D: Disk>(tables: &Tables<D>, id: u64, length: u64) -> Option<Extent>
@@ -65,7 +64,8 @@ fn cut_end<D: Disk>(tables: &mut Tables<D>, id: u64, length: u64)
 {
     if let Some(extent) = cut_end_extent(tables, id, length) {
         let key = (id, (length / BLOCK) as u32);
-        tables.set_extent(key, extent).unwrap();
+        let was = tables.get_extent(key);
+        tables.set_extent(key, was, extent).unwrap();
     }
 }
 
@@ -114,6 +114,7 @@ pub fn set_length<D: Disk>(tables: &mut Tables<D>, name: &[u8], length: u64) -> 
     ensures spends { Spends 0 0 tables.old tables.new }
     ensures stops { stopped tables.new ≡ true → IsErrOf result Fault.Failed }
     ensures halts { IsErrOf result Fault.Failed → stopped tables.new ≡ true }
+    ensures spares { Spares tables.old tables.new result }
     ensures same { OnErr result (tables_now tables.new ≡ tables_now tables.old) }
     ensures inside { OnOk result (inside_now tables.new ≡ inside_resized name.now length (inside_now tables.old)) }
     ensures err_inside { OnErr result (inside_now tables.new ≡ inside_now tables.old) }

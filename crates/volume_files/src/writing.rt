@@ -15,21 +15,20 @@ ghost use Rattle.volume_inside.specs.Typed.{Typed};
 ghost use Rattle.volume_inside.specs.View.{file_cells};
 ghost use Rattle.volume_tables.specs.Tables.{tables_now, inside_now, states_of, staged_of, checkpoint_of, disk_of};
 ghost use Rattle.volume_tables.specs.Tables.{clusters_in, stopped, IsTables, IsRoomFor, Leaves};
+ghost use Rattle.volume_tables.specs.Sound.{IsSound, IsKept, Endures, Spares};
+ghost use Rattle.volume_tables.specs.Spending.{Spends};
+ghost use Rattle.volume_tables.specs.Wants.{wanting, IsWanting, IsRepliedOrMemory};
 ghost use Rattle.volume_files.specs.Insides.{id_written};
 ghost use Rattle.volume_files.specs.Needs.{missing, first_touched, touched, touched_at, write_needs};
-ghost use Rattle.volume_files.specs.Sound.{IsSound, IsKept, Endures};
-ghost use Rattle.volume_files.specs.Spending.{Spends};
-ghost use Rattle.volume_files.specs.Wants.{wanting, IsWanting, IsRepliedOrMemory};
 ghost use Rattle.volume_files.specs.Writing.{AreWritten, IsWritten, ReadsFirst, write_wants};
 
 use crate::block::BLOCK;
 use crate::blocks::write_blocks;
-use crate::room::make_room;
 use cluster_space::Run;
 use plain_volume::Fault;
 use plain_volume::limits::{MOST_BYTES_OF_A_CALL, MOST_BYTES_OF_A_FILE};
 use vdisk::Disk;
-use volume_tables::{FileRecord, Tables};
+use volume_tables::{FileRecord, Tables, make_room};
 
 /// How many of so many blocks of a file from one on have no extent.
 fn count_missing<D: Disk>(tables: &Tables<D>, file: u64, first: u32, count: u32) -> u32
@@ -37,14 +36,8 @@ fn count_missing<D: Disk>(tables: &Tables<D>, file: u64, first: u32, count: u32)
     ensures is { result ≡ missing (tables_now tables.now) file first count }
     ensures most { result ≤ count }
 {
-    if count == 0 {
-        return 0;
-    }
-    let rest = count_missing(tables, file, first + 1, count - 1);
-    match tables.get_extent((file, first)) {
-        None => 1 + rest,
-        Some(_) => rest,
-    }
+    let present = tables.count_extents((file, first), (file, first + count));
+    count - present as u32
 }
 
 /// Makes room for a write of some bytes into a file that stays within the limits.
@@ -73,6 +66,7 @@ fn make_room_for_write<D: Disk>(
     ensures runs { OnOk result (stopped tables.new ≡ false) }
     ensures stops { stopped tables.new ≡ true → IsErrOf result Fault.Failed }
     ensures halts { IsErrOf result Fault.Failed → stopped tables.new ≡ true }
+    ensures spares { Spares tables.old tables.new result }
 {
     let first = (at / BLOCK) as u32;
     let touches = ((at + count as u64 - 1) / BLOCK) as u32 + 1 - first;
@@ -159,6 +153,7 @@ pub fn write_plain<D: Disk>(
     ensures failed { IsErrOf result Fault.Failed → Rose (disk_of tables.old).faults (disk_of tables.new).faults }
     ensures halts { IsErrOf result Fault.Failed → (stopped tables.new ≡ true) ⊎
         ReadsFirst file at at (length bytes.now) (tables_now tables.old) }
+    ensures spares { Spares tables.old tables.new result }
 {
     if bytes.len() as u64 > MOST_BYTES_OF_A_CALL {
         return Err(Fault::TooLarge(MOST_BYTES_OF_A_CALL));

@@ -35,3 +35,10 @@ pub mod Counting
 pub mod Measured
 pub mod Counts
 pub mod Runs
+pub mod Ranged
+pub mod Endured
+pub mod Spared
+pub mod Wanted
+pub mod Stagings
+pub mod Rereads
+pub mod Finished

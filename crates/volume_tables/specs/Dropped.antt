@@ -5,12 +5,17 @@ use Rattle.std.specs.FinMap.Entries.{where_key}
 use Rattle.cluster_space.specs.declared.state.State.{State}
 use Rattle.cluster_space.specs.declared.state.State.TheVariants.{Used}
 use Rattle.cluster_space.specs.States.{IsIn}
+use Rattle.table_records.specs.Codecs.{Codec}
 use Rattle.table_records.specs.Changes.{is_in_range, is_under}
 use Rattle.table_records.specs.Keys.{pair_cmp}
 use Rattle.table_records.specs.declared.records.Extent.{Extent}
 use Rattle.volume_inside.specs.Typed.{FileBlock}
 use Rattle.volume_inside.specs.Named.{extent_clusters}
 use Rattle.volume_inside.specs.Lists.{IsOut}
+
+-- the entries of a table with the keys of a range
+abbrev pub in_range : {K V : Type 0} → Codec K V → K → Option K → List (K × V) → List (K × V)
+in_range c from to es = where_key c.cmp (λ k. is_in_range c.cmp from to k) es
 
 -- the extents of a range
 abbrev pub extents_in : FileBlock → Option FileBlock → List (FileBlock × Extent) → List (FileBlock × Extent)

@@ -13,3 +13,8 @@ pub mod Mount
 pub mod Mounted
 pub mod Formats
 pub mod Counts
+pub mod Sound
+pub mod Wants
+pub mod Reads
+pub mod Stages
+pub mod Spending

@@ -45,6 +45,7 @@ pub fn write_block<D: Disk>(
         cluster,
         valid: 4096,
     };
-    tables.set_extent(key, extent)?;
+    let was = tables.get_extent(key);
+    tables.set_extent(key, was, extent)?;
     tables.commit()
 }

@@ -263,10 +263,32 @@ impl<D: Disk> Tables<D> {
         ensures leaves { Leaves self.old self.new }
         ensures numbers { (staged_of self.new ≡ staged_of self.old) × (checkpoint_of self.new ≡
             checkpoint_of self.old) }
+        ensures ends { self.new.ends ≡ self.old.ends }
         ensures running { stopped self.new ≡ stopped self.old }
         ensures failed { OnErr result (IsErrOf result Fault.Failed ×
             Rose (disk_of self.old).faults (disk_of self.new).faults) }
     {
         fault::of_log(self.log.read_data(4096 * cluster as u64 + from as u64, out))
+    }
+
+    /// Reads bytes of data clusters beside one another, from a place in the first of them on, at once. After a refusal
+    /// `out` may hold anything.
+    pub fn read_run(&mut self, first: u32, from: u16, out: &mut [u8]) -> Result<(), Fault>
+        requires in_data { IsDataCluster self.old.clusters first }
+        requires in_clusters { 4096 * first + from + length out.old ≤ 4096 * self.old.clusters }
+        ensures bytes { (stored : Typed) → IsTables self.old stored →
+            OnOk result (out.new ≡ part (4096 * first + from) (length out.old) (disk_of self.old).image) }
+        ensures now { tables_now self.new ≡ tables_now self.old }
+        ensures states { states_of self.new ≡ states_of self.old }
+        ensures image { (disk_of self.new).image ≡ (disk_of self.old).image }
+        ensures leaves { Leaves self.old self.new }
+        ensures numbers { (staged_of self.new ≡ staged_of self.old) × (checkpoint_of self.new ≡
+            checkpoint_of self.old) }
+        ensures ends { self.new.ends ≡ self.old.ends }
+        ensures running { stopped self.new ≡ stopped self.old }
+        ensures failed { OnErr result (IsErrOf result Fault.Failed ×
+            Rose (disk_of self.old).faults (disk_of self.new).faults) }
+    {
+        fault::of_log(self.log.read_data(4096 * first as u64 + from as u64, out))
     }
 }

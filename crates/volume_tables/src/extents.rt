@@ -69,11 +69,17 @@ impl<D: Disk> Tables<D> {
     }
 
     /// Names a cluster as a block of a file: `key` is the file's id and the block's number. No other key names the
-    /// cluster. Room for 24 bytes of records was ensured.
+    /// cluster, and the extent `was` stands at the key, if one does. Room for 24 bytes of records was ensured.
     ///
     /// After Ok the cluster is used, and another one that stood at the key is deferred. After a refusal the cluster is
     /// deferred, unless the key names it.
-    pub fn set_extent(&mut self, key: (u64, u32), extent: Extent) -> Result<(), Fault>
+    pub fn set_extent(
+        &mut self,
+        key: (u64, u32),
+        was: Option<Extent>,
+        extent: Extent,
+    ) -> Result<(), Fault>
+        requires is { was ≡ find pair_cmp key (tables_now self.old).extents }
         requires room { staged_of self.old + 24 ≤ 65472 }
         requires taken { HasState self.old.clusters (states_of self.old) State.Used extent.cluster ⊎
             HasState self.old.clusters (states_of self.old) State.Deferred extent.cluster }
@@ -89,7 +95,6 @@ impl<D: Disk> Tables<D> {
             with_refused self.old.clusters (find pair_cmp key (tables_now self.old).extents) extent.cluster
             (used_at self.old.clusters extent.cluster (states_of self.old))) }
     {
-        let was = self.get_extent(key);
         self.take_back(extent.cluster);
         match self.put_extent(key, extent) {
             Ok(()) => {

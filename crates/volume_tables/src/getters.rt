@@ -9,6 +9,7 @@ ghost use Rattle.cluster_space.specs.States.{free_in, deferred_in};
 ghost use Rattle.table_records.specs.Keys.{pair_cmp, single_cmp, kind_cmp};
 ghost use Rattle.volume_inside.specs.Layout.{half_bytes, data_clusters};
 ghost use Rattle.volume_inside.specs.Rules.{next_id_of};
+ghost use Rattle.volume_tables.specs.Dropped.{extents_in};
 
 use crate::tables::Tables;
 use crate::{raw, raw_names};
@@ -77,6 +78,13 @@ impl<D: Disk> Tables<D> {
             Some(key) => raw::next::<D, Extents>(&self.log, key),
             None => raw::first::<D, Extents>(&self.log, 4),
         }
+    }
+
+    /// How many extents have a key from one on and below another. However many they are, it searches twice.
+    pub fn count_extents(&self, from: (u64, u32), to: (u64, u32)) -> usize
+        ensures { result ≡ length (extents_in from (Some to) (tables_now self.now).extents) }
+    {
+        raw::count_between::<D, Extents>(&self.log, from, to)
     }
 
     /// The id that is drawn next.

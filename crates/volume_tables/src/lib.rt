@@ -1,6 +1,7 @@
 //! The typed tables of a volume, over its journal and its data clusters.
 #![tactic(auto)]
 
+mod call_room;
 mod client;
 mod clusters;
 mod commit;
@@ -23,6 +24,7 @@ mod setters;
 mod settings;
 mod tables;
 
+pub use call_room::make_room;
 pub use client::write_block;
 pub use ids::LAST_ID;
 pub use laws::{

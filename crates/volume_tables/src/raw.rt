@@ -7,6 +7,7 @@ ghost use Rattle.table_records.specs.Codecs.{typed, IsKeyed};
 ghost use Rattle.table_records.specs.Changes.{EndsRange};
 ghost use Rattle.volume_tables.specs.Log.{log_now, log_staged};
 ghost use Rattle.volume_tables.specs.Contents.{SortedAnd};
+ghost use Rattle.volume_tables.specs.Dropped.{in_range};
 ghost use Rattle.volume_tables.specs.Staging.{IsStagedPut, IsStagedDrop};
 
 use crate::fault;
@@ -57,6 +58,19 @@ pub(crate) fn first<D: Disk, T: Table>(log: &MetaLog<D>, number: u8) -> Option<(
             Some(key) => Some((key, T::read_value(value))),
         },
     }
+}
+
+/// How many entries of a table have a key from one on and below another, where each key with the number of the table is
+/// one of its keys.
+pub(crate) fn count_between<D: Disk, T: Table>(log: &MetaLog<D>, from: T::Key, to: T::Key) -> usize
+    ensures { SortedAnd (IsKeyed T.codec) (log_now log.now) →
+        result ≡ length (in_range T.codec from (Some to) (typed T.codec (log_now log.now))) }
+{
+    let mut low = [0u8; MOST_KEY_BYTES];
+    let low_length = T::write_key(from, &mut low);
+    let mut high = [0u8; MOST_KEY_BYTES];
+    let high_length = T::write_key(to, &mut high);
+    log.count_between(&low[..low_length], &high[..high_length])
 }
 
 /// Stages an entry of a table. Room for its record was ensured.

@@ -31,8 +31,9 @@ impl<D: Disk> Tables<D> {
     /// Ensures that records of so many bytes can be staged and so many clusters be taken. Where they cannot at once,
     /// the tables, which meet the rules, are committed first.
     ///
-    /// The fault is `Full`, before any commit, exactly where more clusters are asked for than are free and deferred;
-    /// others are those of the commit. `Failed` alone stops the tables, and what is stored then is not known.
+    /// The fault is `Full`, before any commit and with the tables untouched, exactly where more clusters are asked for
+    /// than are free and deferred; others are those of the commit. `Failed` alone stops the tables, and what is stored
+    /// then is not known.
     pub fn ensure_room(&mut self, records: usize, clusters: u32) -> Result<(), Fault>
         requires running { stopped self.old ≡ false }
         requires records { records ≤ 65472 }
@@ -50,6 +51,8 @@ impl<D: Disk> Tables<D> {
         ensures checkpoint { checkpoint_of self.new ≡ checkpoint_of self.old }
         ensures full { free_in (states_of self.old) + deferred_in (states_of self.old) < clusters →
             result ≡ Err (Fault.Full clusters (free_in (states_of self.old) + deferred_in (states_of self.old))) }
+        ensures untouched { free_in (states_of self.old) + deferred_in (states_of self.old) < clusters →
+            self.new ≡ self.old }
         ensures fits { clusters ≤ free_in (states_of self.old) + deferred_in (states_of self.old) →
             OnErr result (IsErrOf result Fault.Worn ⊎ IsErrOf result Fault.Failed) }
         ensures worn { IsErrOf result Fault.Worn → IsTrue (would_wear self.old) }

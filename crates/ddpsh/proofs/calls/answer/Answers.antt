@@ -1,7 +1,7 @@
 use Rattle.std.proofs.Common.{refl}
 use Rattle.cmdlet_line.specs.Lines.{refusal_of}
-use Rattle.ddpsh.specs.Script.{Bad}
-use Rattle.ddpsh.specs.Answers.{Refused, refusal_text}
+use Rattle.script_items.specs.Script.{Bad}
+use Rattle.answer_text.specs.Answers.{Refused, refusal_text}
 use Rattle.ddpsh.proofs.CallLaws.{comes_none, plain_exit}
 use Rattle.ddpsh.proofs.calls.answer.Goals as goal
 

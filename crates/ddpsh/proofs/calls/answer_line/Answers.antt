@@ -1,8 +1,8 @@
 use Rattle.std.proofs.Common.{refl, Ok, true≢false}
 use Rattle.std.proofs.lemmas.Bool.{false≢true}
 use Rattle.cmdlet_line.specs.Lines.{Silent}
-use Rattle.ddpsh.specs.Script.{Bare}
-use Rattle.ddpsh.specs.Answers.{Nothing}
+use Rattle.script_items.specs.Script.{Bare}
+use Rattle.answer_text.specs.Answers.{Nothing}
 use Rattle.ddpsh.proofs.CallLaws.{comes_none, plain_exit}
 use Rattle.ddpsh.proofs.calls.answer_line.Goals as goal
 

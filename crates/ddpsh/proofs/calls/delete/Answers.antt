@@ -3,7 +3,7 @@ use Rattle.std.proofs.lemmas.Bool.{false≢true}
 use Rattle.cmdlet_line.specs.Lines.{Delete}
 use Rattle.plain_volume.specs.Replies.{done_reply}
 use Rattle.plain_volume.specs.declared.call.Call.TheVariants as call
-use Rattle.ddpsh.specs.Script.{Bare}
+use Rattle.script_items.specs.Script.{Bare}
 use Rattle.ddpsh.proofs.CallLaws.{Called, comes_call, fits_once, steady_call}
 use Rattle.ddpsh.proofs.calls.delete.Goals as goal
 

@@ -4,8 +4,8 @@ use Rattle.cmdlet_line.specs.Lines.{Digest}
 use Rattle.plain_volume.specs.declared.call.Call.TheVariants as call
 use Rattle.plain_volume.specs.declared.call.Reply.TheVariants as reply
 use Rattle.hex.specs.Hex.{encode_lower}
-use Rattle.ddpsh.specs.Answers.{Accepted}
-use Rattle.ddpsh.specs.Script.{Bare}
+use Rattle.answer_text.specs.Answers.{Accepted}
+use Rattle.script_items.specs.Script.{Bare}
 use Rattle.volume_core.specs.Volumes.{view_now}
 use Rattle.volume_core.specs.Replies.{digest_reply}
 use Rattle.ddpsh.proofs.CallLaws.{Called, comes_call, fits_once, known_said, digest_after}

@@ -1,8 +1,8 @@
 use Rattle.std.proofs.Common.{◌≡◌, Ok, Err, arith, ap}
 use Rattle.cmdlet_line.specs.Lines.{Exit}
 use Rattle.plain_volume.specs.declared.call.Fault.TheVariants as fault
-use Rattle.ddpsh.specs.Script.{Bare}
-use Rattle.ddpsh.specs.declared.answers.Answered.TheVariants as answered
+use Rattle.script_items.specs.Script.{Bare}
+use Rattle.answer_text.specs.declared.answers.Answered.TheVariants as answered
 use Rattle.ddpsh.proofs.CallLaws.{Flushed, broke_none, exit_done, exit_refused, steady_call, steady_none}
 use Rattle.ddpsh.proofs.calls.exit.Goals as goal
 

@@ -3,8 +3,8 @@ use Rattle.std.proofs.lemmas.Bool.{false≢true}
 use Rattle.cmdlet_line.specs.Lines.{Fill}
 use Rattle.plain_volume.specs.Replies.{done_reply}
 use Rattle.plain_volume.specs.declared.call.Call.TheVariants as call
-use Rattle.ddpsh.specs.Script.{Bare}
-use Rattle.ddpsh.specs.declared.stops.SessionFault.TheVariants as stop
+use Rattle.script_items.specs.Script.{Bare}
+use Rattle.answer_text.specs.declared.stops.SessionFault.TheVariants as stop
 use Rattle.ddpsh.proofs.CallLaws.{Called, took, comes_call, fits_once, broke_none, filled_as, steady_call, steady_none}
 use Rattle.ddpsh.proofs.calls.fill.Goals as goal
 

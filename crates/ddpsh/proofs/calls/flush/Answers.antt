@@ -2,7 +2,7 @@ use Rattle.std.proofs.Common.{refl, inl, arith}
 use Rattle.cmdlet_line.specs.Lines.{Flush}
 use Rattle.plain_volume.specs.Replies.{done_reply}
 use Rattle.plain_volume.specs.declared.call.Call.TheVariants as call
-use Rattle.ddpsh.specs.Script.{Bare}
+use Rattle.script_items.specs.Script.{Bare}
 use Rattle.ddpsh.proofs.CallLaws.{Called, Flushed, comes_call, fits_once, flush_kept, steady_call}
 use Rattle.ddpsh.proofs.calls.flush.Goals as goal
 

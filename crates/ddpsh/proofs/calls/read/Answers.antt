@@ -5,9 +5,9 @@ use borrow.Rule.Slice.PartMut.{put_mid}
 use Rattle.plain_volume.specs.Replies.{bytes_reply}
 use Rattle.plain_volume.specs.declared.call.Call.TheVariants as call
 use Rattle.cmdlet_line.specs.Lines.{Read}
-use Rattle.ddpsh.specs.Script.{Bare}
+use Rattle.script_items.specs.Script.{Bare}
 use Rattle.volume_core.specs.Volumes.{view_now}
-use Rattle.ddpsh.proofs.CallLaws.{Called, comes_call, called_as, fits_once, broke_none, ended_said, read_text, read_after, size_room, put_size}
+use Rattle.ddpsh.proofs.CallLaws.{Called, comes_call, called_as, fits_once, broke_none, ended_said, read_text, read_after, size_room, put_size, steady_call}
 use Rattle.ddpsh.proofs.calls.read.Goals as goal
 
 pub returns-in-Err-clause-told : goal.returns-in-Err-clause-told
@@ -62,3 +62,13 @@ returns-in-Err-read_into-clause-told g c w kept =
     (called_as c.args.name.now c.args.at _ c.args.count _ _ _ size did)
     (fits_once (Bare (Read c.args.name.now c.args.at c.args.count)) (call.Read c.args.name.now c.args.at c.args.count) (λ v w calls answer h. h) (λ v calls h. h) refl) (λ answer says h. absurd (false≢true h))
     c.refused_call.ensures.said)
+
+pub returns-in-Err-read_into-clause-steady : goal.returns-in-Err-read_into-clause-steady
+returns-in-Err-read_into-clause-steady g c =
+    let call = c.read_into in
+    rw c.called-in-Err-read_into.ensures
+    (steady_call c.args.volume.now call.new.self 1 (Err c.in-Err-read_into.fault) c.refused_call.result (omega arith)
+    (λ stops. absurd (false≢true (sym call.ensures.runs ∙ stops))) c.in-Err-read_into.ensures.failed
+    (λ h. ap Err (c.refused_call.ensures.device h)) (λ h. c.refused_call.ensures.failed (cc))
+    c.refused_call.ensures.no_sink call.ensures.endures.later
+    (λ x h. g.met.D.Disk.same_next x _ _ h call.ensures.endures.same))

@@ -3,7 +3,7 @@ use Rattle.std.proofs.lemmas.Bool.{false≢true}
 use Rattle.cmdlet_line.specs.Lines.{Rename}
 use Rattle.plain_volume.specs.Replies.{done_reply}
 use Rattle.plain_volume.specs.declared.call.Call.TheVariants as call
-use Rattle.ddpsh.specs.Script.{Bare}
+use Rattle.script_items.specs.Script.{Bare}
 use Rattle.ddpsh.proofs.CallLaws.{Called, took, comes_call, fits_once, steady_call}
 use Rattle.ddpsh.proofs.calls.rename.Goals as goal
 

@@ -2,8 +2,8 @@ use Rattle.std.proofs.Common.{sym, refl, inl, Ok, Err}
 use Rattle.cmdlet_line.specs.Lines.{Stat}
 use Rattle.plain_volume.specs.declared.call.Call.TheVariants as call
 use Rattle.plain_volume.specs.declared.call.Reply.TheVariants as reply
-use Rattle.ddpsh.specs.Answers.{Accepted, number}
-use Rattle.ddpsh.specs.Script.{Bare}
+use Rattle.answer_text.specs.Answers.{Accepted, number}
+use Rattle.script_items.specs.Script.{Bare}
 use Rattle.volume_core.specs.Volumes.{view_now}
 use Rattle.volume_core.specs.Replies.{length_reply}
 use Rattle.ddpsh.proofs.CallLaws.{Told, comes_told, fits_once, known_said, stat_after, stat_moves}

@@ -1,8 +1,9 @@
 use Rattle.std.proofs.Common.{◌≡◌, ◌∙◌, sym, subst, refl, codes, true, false, true≢false}
 use Rattle.std.proofs.lemmas.Bool.{false≢true}
 use Rattle.cmdlet_line.specs.Lines.{Write}
-use Rattle.ddpsh.specs.Script.{Item, Cut, Spoilt}
-use Rattle.ddpsh.specs.Answers.{Refused, makes_none, may_stop}
+use Rattle.script_items.specs.Script.{Item, Cut, Spoilt}
+use Rattle.answer_text.specs.Answers.{Refused}
+use Rattle.ddpsh.specs.Answers.{makes_none, may_stop}
 use Rattle.ddpsh.specs.Served.{Attempts}
 use Rattle.ddpsh.proofs.CallLaws.{comes_none, cut_item, spoilt_item, paid_item, plain_exit, steady_none}
 use Rattle.ddpsh.proofs.calls.write_line.Goals as goal

@@ -2,4 +2,4 @@ use Rattle.ddpsh.proofs.FixedStates.{states_fixed}
 use Rattle.ddpsh.proofs.laws.outputs_fix_states.Goals as goal
 
 pub returns : goal.returns
-returns c = states_fixed c.an_image_has_one_inside.ensures
+returns c = states_fixed

@@ -2,7 +2,7 @@ use Rattle.std.proofs.Common.{◌≡◌, ◌+◌, ◌*◌, ◌++◌, ◌∙◌, 
 use Rattle.plain_volume.specs.Step.{plain}
 use Rattle.plain_volume.specs.Replies.{own_reply, IsOwnOrMemory}
 use Rattle.plain_volume.specs.declared.call.Call.TheVariants as call
-use Rattle.ddpsh.specs.Listing.{file_line}
+use Rattle.answer_text.specs.Answers.{file_line}
 use Rattle.volume_core.specs.Replies.{length_reply, name_reply}
 use Rattle.volume_core.specs.Volumes.{view_now}
 use Rattle.ddpsh.proofs.ListLaws.{Listed, listed_start, listed_more, listed_few, name_of, stat_given, comes_list, broken_line, broken_name}

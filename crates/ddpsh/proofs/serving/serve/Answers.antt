@@ -1,7 +1,7 @@
 use Rattle.std.proofs.Common.{◌≡◌, ◌≤◌, ◌<◌, ◌^◌, refl, sym, ap, Err, ◌∙◌, rules, arith}
 use Rattle.cmdlet_line.specs.Lines.{line_of}
-use Rattle.ddpsh.specs.Input.{taken}
-use Rattle.ddpsh.specs.Script.{item_of, first_item}
+use Rattle.script_items.specs.Input.{taken}
+use Rattle.script_items.specs.Script.{item_of, first_item}
 use Rattle.ddpsh.proofs.StageLaws.{stage_start, stage_none, stage_more, stage_exit, stage_stop, stage_fault}
 use Rattle.ddpsh.proofs.StageLaws.{stage_over, fault_long, left_start, is_exit_last}
 use Rattle.ddpsh.proofs.ClockLaws.{none_read, read_more, step_read, often_so, often_stopped}

@@ -1,6 +1,6 @@
 use Rattle.std.proofs.Common.{◌≡◌, ◌≤◌, ◌-◌, ◌^◌, ℕ, false, List, length, Some, vec_capacity}
-use Rattle.ddpsh.specs.Input.{taken, IsLeft, HasGiven}
-use Rattle.ddpsh.specs.Script.{volume_text}
+use Rattle.script_items.specs.Input.{taken, IsLeft, HasGiven}
+use Rattle.script_items.specs.Script.{volume_text}
 use Rattle.volume_core.specs.Volumes.{disk_of, view_now, IsKept}
 use Rattle.ddpsh.specs.Served.{StaysSame}
 use Rattle.ddpsh.specs.Sessions.{is_over}

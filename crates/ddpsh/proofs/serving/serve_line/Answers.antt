@@ -1,6 +1,6 @@
 use Rattle.std.proofs.Common.{refl, inl, inr}
 use Rattle.cmdlet_line.specs.Lines.{line_of}
-use Rattle.ddpsh.specs.Script.{item_of}
+use Rattle.script_items.specs.Script.{item_of}
 use Rattle.ddpsh.proofs.LineOfLaws.{step_line_as, step_none}
 use Rattle.ddpsh.proofs.serving.serve_line.Goals as goal
 

@@ -1,4 +1,4 @@
-use Rattle.std.proofs.Common.{ℕ, ◌+◌, List, take, sym, ◌∙◌, ap, subst}
+use Rattle.std.proofs.Common.{ℕ, ◌+◌, List, sym, ◌∙◌, ap, subst}
 use Rattle.std.specs.Prelude.{Option}
 use Rattle.std.specs.FinMap.{find}
 use Rattle.cluster_space.specs.declared.state.State.{State}
@@ -6,7 +6,6 @@ use Rattle.cluster_space.specs.declared.state.State.TheVariants.{Deferred, Free}
 use Rattle.cluster_space.specs.States.{free_in}
 use Rattle.table_records.specs.Keys.{pair_cmp}
 use Rattle.table_records.specs.declared.records.Extent.{Extent}
-use Rattle.volume_inside.specs.Inside.{cluster_bytes}
 use Rattle.volume_inside.specs.Typed.{Typed, FileBlock}
 use Rattle.volume_inside.specs.Changes.{with_extent}
 use Rattle.volume_tables.specs.Clusters.{HasState, with_replaced, used_at}

@@ -1,6 +1,5 @@
 use Rattle.std.proofs.Common.{◌≡◌, ◌≤◌, ◌<◌, ◌+◌, ◌-◌, ◌*◌, ℕ, length, sym, ◌∙◌, ap, subst, inl, inr, ⊎_elim, arith}
-use Rattle.std.proofs.Common.{refl}
-use Rattle.std.specs.Prelude.{Option, IsSome}
+use Rattle.std.specs.Prelude.{Option}
 use Rattle.std.specs.FinMap.{find}
 use Rattle.cluster_space.specs.declared.state.State.TheVariants.{Used, Deferred}
 use Rattle.table_records.specs.Keys.{pair_cmp}
@@ -75,9 +74,8 @@ pub take_back-requires-clause-there : goal.take_back-requires-clause-there
 take_back-requires-clause-there g t c =
     let k : FileBlock = (c.args.file, c.args.index) in
     let e = c.in_ok-written.written.extent in
-    let found = ap (λ (q : Typed). find pair_cmp k q.extents) (c.in-Err.ensures.err ∙ c.in_ok-written.ensures.ok)
-    ∙ found_put k e (tables_now c.args.tables.now).extents in
-    subst (λ (o : Option Extent). IsSome o) (sym found) refl
+    ap (λ (q : Typed). find pair_cmp k q.extents) (c.in-Err.ensures.err ∙ c.in_ok-written.ensures.ok)
+    ∙ found_put k e (tables_now c.args.tables.now).extents
 
 pub take_back-requires-clause-deferred : goal.take_back-requires-clause-deferred
 take_back-requires-clause-deferred g t c o was =

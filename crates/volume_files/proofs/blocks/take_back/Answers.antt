@@ -1,5 +1,5 @@
 use Rattle.std.proofs.Common.{◌≡◌, ◌≢◌, ℕ, ◌+◌, ◌-◌, List, sym, ◌∙◌, ap, subst, inr, refl, arith}
-use Rattle.std.specs.Prelude.{Option, Some, None, IsSome}
+use Rattle.std.specs.Prelude.{Option, Some, IsSome}
 use Rattle.std.specs.FinMap.{find}
 use Rattle.cluster_space.specs.declared.state.State.{State}
 use Rattle.cluster_space.specs.declared.state.State.TheVariants.{Deferred}
@@ -18,10 +18,9 @@ use Rattle.volume_files.proofs.Setting.{sorted_now, held_now, on_ok_there}
 use Rattle.volume_files.proofs.Taking.{told, dropped_told, dropped_deferred, back_told, back_deferred}
 use Rattle.volume_files.proofs.blocks.take_back.Goals as goal
 
--- what a key has that has something
-found_of : (o : Option Extent) → IsSome o → (e : Extent) × (o ≡ Some e)
-found_of None there = absurd (cc)
-found_of (Some e) there = (e, refl)
+-- what a key has is something
+is_there : (o : Option Extent) (e : Extent) → o ≡ Some e → IsSome o
+is_there o e is = subst (λ (p : Option Extent). IsSome p) (sym is) refl
 
 pub set_extent-requires-clause-alone : goal.set_extent-requires-clause-alone
 set_extent-requires-clause-alone g c =
@@ -44,28 +43,26 @@ pub returns-in-None-clause-deferred : goal.returns-in-None-clause-deferred
 returns-in-None-clause-deferred g c j is other =
     let t = c.args.tables.now in
     let k : FileBlock = (c.args.key.0, c.args.key.1) in
-    let e = found_of (find pair_cmp k (tables_now t).extents) c.requires.there in
     let states = c.drop_extent.ensures.states ∙ (λ i. all_deferred (first_data_cluster t.clusters)
-    (range_is_one k e.0 (tables_now t).extents (sorted_now t) e.1 i) (states_of t)) in
+    (range_is_one k c.args.named (tables_now t).extents (sorted_now t) c.requires.there i) (states_of t)) in
     subst (λ (xs : List State). IsIn xs j Deferred) (sym states)
-    (dropped_deferred t.clusters t.space (tables_now t) (held_now t) t.spaces (sorted_now t) k e.0 e.1 j is)
+    (dropped_deferred t.clusters t.space (tables_now t) (held_now t) t.spaces (sorted_now t) k c.args.named c.requires.there j is)
 
 pub returns-in-None-clause-loses_none : goal.returns-in-None-clause-loses_none
 returns-in-None-clause-loses_none g c runs =
     let t = c.args.tables.now in
     let k : FileBlock = (c.args.key.0, c.args.key.1) in
-    let e = found_of (find pair_cmp k (tables_now t).extents) c.requires.there in
     let states = c.drop_extent.ensures.states ∙ (λ i. all_deferred (first_data_cluster t.clusters)
-    (range_is_one k e.0 (tables_now t).extents (sorted_now t) e.1 i) (states_of t)) in
+    (range_is_one k c.args.named (tables_now t).extents (sorted_now t) c.requires.there i) (states_of t)) in
     (λ i. told (states i) (c.drop_extent.ensures.tables i)) ∙ dropped_told t.clusters t.space (tables_now t)
-    (held_now t) t.spaces (sorted_now t) k e.0 e.1
+    (held_now t) t.spaces (sorted_now t) k c.args.named c.requires.there
 
 pub returns-in-Some-clause-tables : goal.returns-in-Some-clause-tables
 returns-in-Some-clause-tables g c t e sorted found set =
     let k : FileBlock = (c.args.key.0, c.args.key.1) in
     let o = c.in-Some.extent in
-    let f = found_of (find pair_cmp k (tables_now c.args.tables.now).extents) c.requires.there in
-    let ok = on_ok_there c.set_extent.result (c.set_extent.ensures.set.in_place c.requires.there)
+    let ok = on_ok_there c.set_extent.result (c.set_extent.ensures.set.in_place
+    (is_there (find pair_cmp k (tables_now c.args.tables.now).extents) c.args.named c.requires.there))
     c.set_extent.ensures.ok in
     let back = put_back k e o t.extents sorted (found ∙ c.in-Some.is) in
     ok ∙ ap (λ (q : Typed). with_extent k o q) set ∙ (λ i. record t { extents = back i })
@@ -75,27 +72,28 @@ returns-in-Some-clause-deferred g c j is other =
     let t = c.args.tables.now in
     let k : FileBlock = (c.args.key.0, c.args.key.1) in
     let o = c.in-Some.extent in
-    let f = found_of (find pair_cmp k (tables_now t).extents) c.requires.there in
     let has = c.requires.deferred o c.in-Some.is in
     let differ : j ≢ o.cluster - first_data_cluster t.clusters = λ same. other o c.in-Some.is
     (omega (arith, same, has.from_first)) in
-    let states = on_ok_there c.set_extent.result (c.set_extent.ensures.set.in_place c.requires.there)
+    let states = on_ok_there c.set_extent.result (c.set_extent.ensures.set.in_place
+    (is_there (find pair_cmp k (tables_now c.args.tables.now).extents) c.args.named c.requires.there))
     c.set_extent.ensures.replaced
-    ∙ ap (λ (was : Option Extent). with_replaced t.clusters was o.cluster (used_at t.clusters o.cluster t.space)) f.1 in
+    ∙ ap (λ (was : Option Extent). with_replaced t.clusters was o.cluster (used_at t.clusters o.cluster t.space)) c.requires.there in
     subst (λ (xs : List State). IsIn xs j Deferred) (sym states)
-    (back_deferred t.clusters t.space (tables_now t) (held_now t) t.spaces (sorted_now t) k f.0 f.1 o has j is differ)
+    (back_deferred t.clusters t.space (tables_now t) (held_now t) t.spaces (sorted_now t) k c.args.named c.requires.there o has j is differ)
 
 pub returns-in-Some-clause-loses_none : goal.returns-in-Some-clause-loses_none
 returns-in-Some-clause-loses_none g c runs =
     let t = c.args.tables.now in
     let k : FileBlock = (c.args.key.0, c.args.key.1) in
     let o = c.in-Some.extent in
-    let f = found_of (find pair_cmp k (tables_now t).extents) c.requires.there in
     let has = c.requires.deferred o c.in-Some.is in
-    let states = on_ok_there c.set_extent.result (c.set_extent.ensures.set.in_place c.requires.there)
+    let states = on_ok_there c.set_extent.result (c.set_extent.ensures.set.in_place
+    (is_there (find pair_cmp k (tables_now c.args.tables.now).extents) c.args.named c.requires.there))
     c.set_extent.ensures.replaced
-    ∙ ap (λ (was : Option Extent). with_replaced t.clusters was o.cluster (used_at t.clusters o.cluster t.space)) f.1 in
-    let ok = on_ok_there c.set_extent.result (c.set_extent.ensures.set.in_place c.requires.there)
+    ∙ ap (λ (was : Option Extent). with_replaced t.clusters was o.cluster (used_at t.clusters o.cluster t.space)) c.requires.there in
+    let ok = on_ok_there c.set_extent.result (c.set_extent.ensures.set.in_place
+    (is_there (find pair_cmp k (tables_now c.args.tables.now).extents) c.args.named c.requires.there))
     c.set_extent.ensures.ok in
     (λ i. told (states i) (ok i)) ∙ back_told t.clusters t.space (tables_now t) (held_now t) t.spaces (sorted_now t)
-    k f.0 f.1 o has
+    k c.args.named c.requires.there o has

@@ -5,13 +5,13 @@ use Rattle.plain_volume.specs.Volume.{with_file}
 use Rattle.plain_volume.specs.declared.call.Call.TheVariants.{Create}
 use Rattle.plain_volume.specs.declared.call.Fault.{Fault}
 use Rattle.volume_tables.specs.Tables.{tables_now, view_now, disk_of}
+use Rattle.volume_tables.specs.Wants.{wanting, is_late, IsRepliedOrMemory}
+use Rattle.volume_tables.proofs.Endured.{endures_leaves}
+use Rattle.volume_tables.proofs.Finished.{finished_reply, finished_left}
+use Rattle.volume_tables.proofs.Wanted.{replied_want}
 use Rattle.volume_files.specs.Names.{with_new}
 use Rattle.volume_files.specs.Needs.{create_needs}
-use Rattle.volume_files.specs.Wants.{wanting, is_late, IsRepliedOrMemory}
-use Rattle.volume_files.proofs.Endured.{endures_leaves}
-use Rattle.volume_files.proofs.Finished.{finished_reply, finished_left}
 use Rattle.volume_files.proofs.NewFile.{answered_new, view_made, view_unmade, sound_made}
-use Rattle.volume_files.proofs.Wanted.{replied_want}
 use Rattle.volume_files.proofs.Spent.{spends_none, spends_new}
 use Rattle.volume_files.specs.Insides.{inside_created}
 use Rattle.volume_files.proofs.Insides.{inside_left, inside_unleft, inside_new}

@@ -1,7 +1,7 @@
 use Rattle.std.proofs.Common.{◌+◌, length}
 use Rattle.volume_inside.specs.Typed.{Typed}
 use Rattle.volume_tables.specs.Tables.{tables_now, clusters_in}
-use Rattle.volume_files.proofs.Endured.{endures_leaves}
+use Rattle.volume_tables.proofs.Endured.{endures_leaves}
 use Rattle.volume_files.proofs.Found.{lawful_short}
 use Rattle.volume_files.proofs.GoneFile.{view_left_gone, sound_gone}
 use Rattle.volume_files.proofs.OneName.{short_names}

@@ -4,10 +4,10 @@ use Rattle.table_records.specs.Keys.{pair_cmp}
 use Rattle.std.specs.Ordering.{nat_cmp}
 use Rattle.volume_inside.specs.Changes.{keep_files, keep_extents}
 use Rattle.volume_tables.specs.Tables.{tables_now}
-use Rattle.volume_files.specs.Stages.{Stages}
+use Rattle.volume_tables.specs.Stages.{Stages}
+use Rattle.volume_tables.proofs.Stagings.{stages_then}
 use Rattle.volume_files.proofs.Counted.{dropped_known}
 use Rattle.volume_files.proofs.GoneFile.{file_range, block_range, quiet_stages}
-use Rattle.volume_files.proofs.Stagings.{stages_then}
 use Rattle.volume_files.proofs.deleting.drop_all.Goals as goal
 
 pub returns-clause-tables : goal.returns-clause-tables

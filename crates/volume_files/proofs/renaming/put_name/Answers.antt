@@ -5,10 +5,10 @@ use Rattle.volume_inside.specs.Changes.{with_name}
 use Rattle.volume_inside.specs.Entries.{each_put}
 use Rattle.volume_inside.specs.Typed.{Typed}
 use Rattle.volume_tables.specs.Tables.{tables_now}
+use Rattle.volume_tables.specs.Stages.{Stages}
+use Rattle.volume_tables.proofs.Stagings.{stages_then}
 use Rattle.volume_files.specs.Names.{AreShort}
-use Rattle.volume_files.specs.Stages.{Stages}
 use Rattle.volume_files.proofs.GoneFile.{quiet_stages}
-use Rattle.volume_files.proofs.Stagings.{stages_then}
 use Rattle.volume_files.proofs.renaming.put_name.Goals as goal
 
 pub drop_one_name-requires-clause-names : goal.drop_one_name-requires-clause-names

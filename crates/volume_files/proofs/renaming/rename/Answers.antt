@@ -6,13 +6,13 @@ use Rattle.plain_volume.specs.declared.call.Call.TheVariants.{Rename}
 use Rattle.plain_volume.specs.declared.call.Fault.{Fault}
 use Rattle.volume_inside.specs.View.{file_cells}
 use Rattle.volume_tables.specs.Tables.{tables_now, inside_now, view_now, disk_of}
+use Rattle.volume_tables.specs.Wants.{wanting, is_late, IsRepliedOrMemory}
+use Rattle.volume_tables.proofs.Endured.{endures_leaves}
+use Rattle.volume_tables.proofs.Finished.{finished_reply, finished_left}
+use Rattle.volume_tables.proofs.Wanted.{replied_want}
 use Rattle.volume_files.specs.Needs.{rename_needs}
-use Rattle.volume_files.specs.Wants.{wanting, is_late, IsRepliedOrMemory}
-use Rattle.volume_files.proofs.Endured.{endures_leaves}
-use Rattle.volume_files.proofs.Finished.{finished_reply, finished_left}
 use Rattle.volume_files.proofs.OneName.{short_names}
 use Rattle.volume_files.proofs.OtherName.{answered_renamed, view_put, view_unput, sound_put}
-use Rattle.volume_files.proofs.Wanted.{replied_want}
 use Rattle.volume_files.proofs.Spent.{spends_none, spends_renamed}
 use Rattle.std.proofs.lemmas.Result.{on_ok_weaker, on_err_weaker}
 use Rattle.std.specs.FinMap.{find}

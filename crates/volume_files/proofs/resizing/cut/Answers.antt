@@ -3,10 +3,10 @@ use Rattle.table_records.specs.Changes.{is_in_range}
 use Rattle.table_records.specs.Keys.{pair_cmp}
 use Rattle.volume_inside.specs.Changes.{keep_extents}
 use Rattle.volume_tables.specs.Tables.{tables_now}
+use Rattle.volume_tables.proofs.Stagings.{stages_then}
 use Rattle.volume_files.specs.Needs.{set_at_end}
 use Rattle.volume_files.proofs.Counted.{dropped_known}
 use Rattle.volume_files.proofs.CutExtents.{range_is_behind}
-use Rattle.volume_files.proofs.Stagings.{stages_then}
 use Rattle.volume_files.proofs.resizing.cut.Goals as goal
 
 pub returns-clause-tables : goal.returns-clause-tables

@@ -7,10 +7,10 @@ use Rattle.volume_tables.specs.Clusters.{HasState}
 use Rattle.volume_tables.specs.Log.{log_now}
 use Rattle.volume_tables.specs.Tables.{tables_now, states_of, staged_of}
 use Rattle.volume_tables.proofs.Leaving.{found_used}
+use Rattle.volume_tables.proofs.Stagings.{as_ok}
 use Rattle.volume_files.specs.Needs.{set_at_end}
 use Rattle.volume_files.proofs.Counted.{same_known}
 use Rattle.volume_files.proofs.CutExtents.{cut_means, cut_is_cut}
-use Rattle.volume_files.proofs.Stagings.{as_ok}
 use Rattle.volume_files.proofs.resizing.cut_end.Goals as goal
 
 pub set_extent-requires-clause-taken : goal.set_extent-requires-clause-taken

@@ -1,8 +1,8 @@
 use Rattle.std.proofs.Common.{◌≡◌, ◌≤◌, ◌+◌, Bool, cond, sym, subst, arith, lt-ltb, nat_lt}
 use Rattle.volume_tables.specs.Tables.{tables_now, staged_of}
+use Rattle.volume_tables.specs.Stages.{Stages}
+use Rattle.volume_tables.proofs.Stagings.{as_ok, stages_then, stages_more, file_known}
 use Rattle.volume_files.specs.Needs.{set_at_end}
-use Rattle.volume_files.specs.Stages.{Stages}
-use Rattle.volume_files.proofs.Stagings.{as_ok, stages_then, stages_more, file_known}
 use Rattle.volume_files.proofs.resizing.resize.Goals as goal
 use Rattle.volume_files.proofs.resizing.resize.Goals.{then-length-file, else-length-file}
 

@@ -1,8 +1,8 @@
 use Rattle.std.proofs.Common.{◌≤◌, arith}
 use Rattle.plain_volume.specs.declared.limits.TheConstants.{MOST_BYTES_OF_A_FILE}
 use Rattle.volume_tables.specs.Tables.{tables_now, clusters_in}
+use Rattle.volume_tables.proofs.Endured.{endures_leaves}
 use Rattle.volume_files.specs.Needs.{length_needs}
-use Rattle.volume_files.proofs.Endured.{endures_leaves}
 use Rattle.volume_files.proofs.Resized.{small_id, sound_resized, view_left}
 use Rattle.volume_files.proofs.Spent.{spends_none, spends_resized}
 use Rattle.std.proofs.Common.{ap, ◌∙◌}

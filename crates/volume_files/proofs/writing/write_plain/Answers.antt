@@ -5,9 +5,9 @@ use Rattle.plain_volume.specs.Step.{write}
 use Rattle.volume_inside.specs.Inside.{Inside}
 use Rattle.volume_inside.specs.View.{file_cells}
 use Rattle.volume_tables.specs.Tables.{tables_now, inside_now, disk_of}
+use Rattle.volume_tables.proofs.Endured.{endures_leaves}
 use Rattle.volume_files.specs.Needs.{touched_at}
 use Rattle.volume_files.specs.Writing.{write_wants}
-use Rattle.volume_files.proofs.Endured.{endures_leaves}
 use Rattle.volume_files.proofs.WriteReplies.{done, file_is_whole, reply_there, wants_some, still_kept}
 use Rattle.volume_files.proofs.Spent.{spends_none, spends_written}
 use Rattle.volume_files.specs.Insides.{id_written}

@@ -1,5 +1,5 @@
 use Rattle.std.proofs.Common.{arith, refl}
-use Rattle.ddpsh.specs.Script.{item_of}
+use Rattle.script_items.specs.Script.{item_of}
 use Rattle.ddpsh.specs.Served.{asked_as}
 use Rattle.ddpsh.proofs.CallLaws.{broke_none}
 use Rattle.ddpsh.proofs.ClockLaws.{clock_failed, clock_read}

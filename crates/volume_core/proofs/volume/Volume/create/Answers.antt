@@ -2,8 +2,8 @@ use Rattle.std.proofs.Common.{refl, arith}
 use Rattle.plain_volume.specs.Replies.{done_reply}
 use Rattle.plain_volume.specs.declared.call.Call.TheVariants.{Create}
 use Rattle.volume_tables.specs.Tables.{disk_of, view_now}
+use Rattle.volume_tables.specs.Wants.{wanting}
 use Rattle.volume_files.specs.Needs.{create_needs}
-use Rattle.volume_files.specs.Wants.{wanting}
 use Rattle.volume_core.proofs.Causes.{failed_rose_too}
 use Rattle.volume_core.proofs.Wanting.{create_may, create_not_failed}
 use Rattle.volume_core.proofs.Adding.{changes_add}
@@ -37,4 +37,4 @@ pub returns-clause-moves : goal.returns-clause-moves
 returns-clause-moves g c =
     let s = c.create.ensures in
     changes_move c.args.self.now.tables c.create.new.tables (Create c.args.name.now) c.create.result refl s.inside
-    s.err_inside s.endures s.stops
+    s.err_inside s.endures s.stops s.spares

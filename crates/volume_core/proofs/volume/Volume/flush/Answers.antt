@@ -8,7 +8,8 @@ use Rattle.volume_tables.specs.Tables.{tables_now, inside_now, states_of, stoppe
 use Rattle.volume_tables.specs.Tables.{would_wear, GoesOn}
 use Rattle.volume_tables.proofs.Freed.{both_ok}
 use Rattle.volume_tables.proofs.Roomed.{unless_stopped, released_counts}
-use Rattle.volume_files.proofs.Endured.{endures_room}
+use Rattle.volume_tables.proofs.Endured.{endures_room}
+use Rattle.volume_tables.proofs.Spared.{rises, spares_commit}
 use Rattle.volume_core.proofs.Flushed.{flush_leaves, flush_reply, flush_stops, flush_want, kept_now, sound_still}
 use Rattle.plain_volume.specs.declared.call.Call.TheVariants.{Flush}
 use Rattle.volume_tables.proofs.Leaving.{area_same}
@@ -54,7 +55,7 @@ returns-clause-endures g c =
       s.still_stored stored is worn,
       subst (λ (x : g.row.D.Denot). Kept (area_of t) (g.D.Disk.state x) w) (sym (s.unspent worn).0) kept,
     )))
-    s.later s.same s.epoch s.tires
+    s.later s.same (rises c.commit.result _ _ _ s.spends s.same_epoch) s.epoch s.tires
 
 pub returns-clause-adds : goal.returns-clause-adds
 returns-clause-adds g c =
@@ -80,10 +81,11 @@ pub returns-clause-moves : goal.returns-clause-moves
 returns-clause-moves g c =
     let t = c.args.self.now.tables in
     let s = c.commit.ensures in
-    moves t c.commit.new.self Flush (done_reply c.commit.result)
+    moves t c.commit.new.self Flush c.commit.result refl
     (s.inside ∙ sym (after_none Flush (done_reply c.commit.result) (inside_now t) refl)) s.clusters
     (λ is. ap done_reply (flush_stops (stopped c.commit.new.self) c.commit.result s.runs s.refused s.still_runs is))
-    s.epoch
+    (spares_commit t c.commit.new.self c.commit.result s.refused s.same_epoch)
+    (rises c.commit.result _ _ _ s.spends s.same_epoch) s.epoch
 
 pub returns-clause-halts : goal.returns-clause-halts
 returns-clause-halts g c failed = (c.commit.ensures.failed failed).1

@@ -2,7 +2,7 @@ use Rattle.std.proofs.Common.{rules, ◌≡◌, ◌+◌, ◌≤◌, length, Err,
 use Rattle.plain_volume.specs.Step.{read}
 use Rattle.plain_volume.specs.declared.call.Call.TheVariants.{Read}
 use Rattle.volume_tables.specs.Tables.{disk_of, view_now}
-use Rattle.volume_files.proofs.Endured.{endures_start}
+use Rattle.volume_tables.proofs.Endured.{endures_start}
 use Rattle.volume_core.proofs.Answered.{read_replied}
 use Rattle.volume_core.proofs.Causes.{refused_not_failed}
 use Rattle.volume_core.proofs.Read.{read_endures}

@@ -36,4 +36,4 @@ pub returns-clause-moves : goal.returns-clause-moves
 returns-clause-moves g c =
     let s = c.set_length.ensures in
     changes_move c.args.self.now.tables c.set_length.new.tables (SetLength c.args.name.now c.args.length)
-    c.set_length.result refl s.inside s.err_inside s.endures s.stops
+    c.set_length.result refl s.inside s.err_inside s.endures s.stops s.spares

@@ -5,8 +5,8 @@ use Rattle.plain_volume.specs.Replies.{done_reply}
 use Rattle.plain_volume.specs.declared.call.Call.TheVariants.{Write}
 use Rattle.plain_volume.specs.declared.call.Fault.{Fault}
 use Rattle.volume_tables.specs.Tables.{disk_of, inside_now, view_now}
-use Rattle.volume_files.specs.Wants.{IsRepliedOrMemory}
-use Rattle.volume_files.proofs.Endured.{endures_start}
+use Rattle.volume_tables.specs.Wants.{IsRepliedOrMemory}
+use Rattle.volume_tables.proofs.Endured.{endures_start}
 use Rattle.volume_core.specs.Wants.{wants_of}
 use Rattle.volume_core.proofs.Told.{want_told, replied_told_too, reads_told}
 use Rattle.volume_core.specs.Moves.{inside_after}
@@ -81,7 +81,7 @@ returns-clause-moves g c w kept =
     changes_move c.args.self.now.tables c.write_plain.new.tables (Write c.args.name.now c.args.at c.args.bytes.now)
     c.write_plain.result refl
     (on_ok_weaker c.write_plain.result (λ is. is ∙ written_of c.args.name.now c.in_ok-file.file c.args.at
-    c.args.bytes.now (inside_now t) found.named) (s.inside w kept)) s.err_inside s.endures s.stops
+    c.args.bytes.now (inside_now t) found.named) (s.inside w kept)) s.err_inside s.endures s.stops s.spares
 
 pub returns-clause-halts : goal.returns-clause-halts
 returns-clause-halts g c failed =

@@ -13,7 +13,7 @@ give_up_replaced-requires g c o was differ =
     let p = c.put_extent.ensures in
     replaced_ready c.take_back.new.self c.put_extent.new.self k c.args.extent o c.in-Ok.ensures.ok p.states
     p.leaves.clusters
-    (ap (λ (q : Typed). find pair_cmp k q.extents) c.take_back.ensures.tables ∙ sym c.get_extent-was.ensures ∙ was)
+    (ap (λ (q : Typed). find pair_cmp k q.extents) c.take_back.ensures.tables ∙ sym c.requires.is ∙ was)
     differ
 
 pub returns-in-Ok-clause-leaves : goal.returns-in-Ok-clause-leaves
@@ -28,7 +28,7 @@ returns-in-Ok-clause-leaves g c =
     (used_no_freer t.clusters c.args.extent.cluster (states_of t)) (g.met.D.Disk.same_self t.log.disk))
     (leaves_then next c.take_back.new.self u c.give_up_replaced.new.self c.put_extent.ensures.leaves
     (space_leaves u c.give_up_replaced.new.self b.log b.clusters b.worn _ b.states
-    (replaced_no_freer u.clusters c.get_extent-was.result c.args.extent.cluster (states_of u))
+    (replaced_no_freer u.clusters c.args.was c.args.extent.cluster (states_of u))
     (g.met.D.Disk.same_self u.log.disk)))
 
 pub returns-in-Err-clause-leaves : goal.returns-in-Err-clause-leaves
@@ -43,5 +43,5 @@ returns-in-Err-clause-leaves g c =
     (used_no_freer t.clusters c.args.extent.cluster (states_of t)) (g.met.D.Disk.same_self t.log.disk))
     (leaves_then next c.take_back.new.self u c.give_up_refused.new.self c.put_extent.ensures.leaves
     (space_leaves u c.give_up_refused.new.self b.log b.clusters b.worn _ b.states
-    (refused_no_freer u.clusters c.get_extent-was.result c.args.extent.cluster (states_of u))
+    (refused_no_freer u.clusters c.args.was c.args.extent.cluster (states_of u))
     (g.met.D.Disk.same_self u.log.disk)))

@@ -1,5 +1,0 @@
-use Rattle.ddpsh.proofs.LineLaws.{finds_newline}
-use Rattle.ddpsh.proofs.lines.newline_in.Goals as goal
-
-pub returns : goal.returns
-returns c = finds_newline c.args.bytes.now c.memchr.result c.memchr.ensures

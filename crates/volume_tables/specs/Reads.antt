@@ -1,0 +1,17 @@
+-- What a call that only reads leaves.
+use Rattle.std.specs.Prelude.{◌≡◌}
+use Rattle.vdisk.specs.declared.disk.Disk.{Ghosts}
+use Rattle.volume_tables.specs.Tables.{tables_now, disk_of, states_of, staged_of, checkpoint_of, stopped, Leaves}
+use Rattle.volume_tables.specs.declared.tables.Tables.{Tables}
+
+module _ {D : Type 0} {d : Ghosts D} where
+  -- The tables, the clusters, the ends of jobs and all bytes are as before, and a crash shows what was kept.
+  pub record ReadsOnly (old new : Tables D d) : Type 0 where
+    pub now : tables_now new ≡ tables_now old
+    pub states : states_of new ≡ states_of old
+    pub image : (disk_of new).image ≡ (disk_of old).image
+    pub ends : new.ends ≡ old.ends
+    pub leaves : Leaves old new
+    pub staged : staged_of new ≡ staged_of old
+    pub checkpoint : checkpoint_of new ≡ checkpoint_of old
+    pub running : stopped new ≡ stopped old
