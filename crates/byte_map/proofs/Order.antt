@@ -8,18 +8,15 @@ use Rattle.std.specs.Cmp.{tied_itself}
 use Rattle.std.specs.Cmp.Lexicographic.{nat_list_cmp_total}
 use Rattle.std.specs.FinMap.Entries.{by_order, put, find, where_key, below_all, is_sorted}
 use Rattle.byte_map.specs.Words.{Map, bytes_cmp, first_of, next_in, is_between, without}
-use Rattle.byte_map.specs.Laws.{first_true, second_true, both_true, is_less, above}
+use Rattle.groundwork.proofs.Bools.{first_true, second_true, both_true}
+use Rattle.groundwork.proofs.Orders.{is_less, less_from}
+use Rattle.byte_map.specs.Laws.{above}
 use Rattle.byte_map.specs.Blocks.{AllBelow, NoneBelow}
 
 -- ---- the order of two keys
 
 pub turned : (a b : List ℕ) (r : Ordering) → bytes_cmp a b ≡ r → bytes_cmp b a ≡ ordering_reverse r
 turned a b r is = nat_list_cmp_total.antisymm b a ∙ ap ordering_reverse is
-
-less_from : (r : Ordering) → is_lt r ≡ true → r ≡ Less
-less_from Less h = refl
-less_from Equal h = absurd (cc)
-less_from Greater h = absurd (cc)
 
 -- a key below k, as k sees it
 pub is_above : (a k : List ℕ) → is_lt (bytes_cmp a k) ≡ true → bytes_cmp k a ≡ Greater

@@ -7,7 +7,8 @@ use Rattle.std.specs.List.{AllWithin}
 use Rattle.std.specs.List.Sorted.{IsPartitionedBy}
 use Rattle.std.specs.FinMap.Entries.{below_all, is_sorted}
 use Rattle.byte_map.specs.Words.{Map, bytes_cmp}
-use Rattle.byte_map.specs.Laws.{first_true, second_true, is_less}
+use Rattle.groundwork.proofs.Bools.{first_true, second_true}
+use Rattle.groundwork.proofs.Orders.{is_less}
 use Rattle.byte_map.specs.Blocks.{joined, block_of, before, rest, AllFilled, AllBelow, NoneBelow, ends_below, key_below, IsBoundFor}
 use Rattle.std.proofs.lemmas.Bool.{cases_lt}
 use Rattle.std.proofs.lemmas.List.{take_all}

@@ -7,24 +7,9 @@ use Rattle.std.specs.Ordering.{is_lt, is_eq}
 use Rattle.std.specs.Cmp.Lexicographic.{nat_list_cmp_total}
 use Rattle.std.specs.FinMap.Entries.{by_order, put, find, below_all, is_sorted, is_sorted-put, is_sorted-where_key, length-put, find-put, find-where_key}
 use Rattle.std.proofs.lemmas.Map.Lookups.{exact_bytes}
+use Rattle.groundwork.proofs.Bools.{first_true, second_true, both_true}
+use Rattle.groundwork.proofs.Orders.{is_less}
 use Rattle.byte_map.specs.Words.{Map, bytes_cmp, is_between, without, bytes_in, bytes_with}
-
-pub first_true : (a b : Bool) → T (a && b) → T a
-first_true true b h = tt
-first_true false b h = h
-
-pub second_true : (a b : Bool) → T (a && b) → T b
-second_true true b h = h
-second_true false b h = absurd h
-
-pub both_true : (a b : Bool) → T a → T b → T (a && b)
-both_true true b p q = q
-both_true false b p q = p
-
-pub is_less : (r : Ordering) → T (is_lt r) → r ≡ Less
-is_less Less h = refl
-is_less Equal h = absurd h
-is_less Greater h = absurd h
 
 -- what is below a key is below all that are above that key
 pub lower : (a b : List ℕ) (m : Map) → bytes_cmp a b ≡ Less → T (below_all bytes_cmp b m) → T (below_all bytes_cmp a m)

@@ -6,18 +6,13 @@
 //! other call takes constant time, but for `Space::free_run`, which takes the time of the run that was asked for.
 #![tactic(auto)]
 
-mod laws;
-mod memory;
+pub mod laws;
 mod places;
 mod run;
 mod space;
 mod state;
 
-pub use laws::{
-    a_count_of_zero_means_none, each_cluster_has_a_state, the_counts_make_up_all,
-    the_states_are_disjoint,
-};
-pub use memory::Memory;
+pub use groundwork::Memory;
 pub use run::Run;
 pub use space::Space;
 pub use state::State;

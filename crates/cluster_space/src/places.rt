@@ -2,7 +2,7 @@
 ghost use Rattle.std.specs.Prelude.{◌≡◌, ◌<◌, length, slice_index, IfOk, IfSome};
 ghost use Rattle.cluster_space.specs.Places.{exchanged, IsAscending, IsAt, IsMove};
 
-use crate::Memory;
+use groundwork::Memory;
 use std::alloc::Global;
 use std::marker::Model;
 

@@ -4,3 +4,4 @@ pub mod SpelledLaws
 pub mod LayoutLaws
 pub mod QuoteLaws
 pub mod MeaningLaws
+pub mod RangeLaws

@@ -96,6 +96,11 @@ pub fn words_ask_what_they_say()
         → line_of volume line ≡ Ok ask }
 {}
 
+/// The numbers that a line asks for are in range.
+pub fn what_is_asked_is_in_range()
+    ensures { (volume line : List ℕ) (ask : Ask) → line_of volume line ≡ Ok ask → AreInRange ask }
+{}
+
 /// A line that has more words is refused by the first of them.
 pub fn further_words_are_refused()
     ensures { (volume line word : List ℕ) (ask : Ask) (rest : List (List ℕ)) → AreInRange ask → ask ≢ Silent

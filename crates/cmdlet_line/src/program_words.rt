@@ -1,20 +1,9 @@
 // The words of a command line.
 ghost use Rattle.std.specs.Prelude.{◌≡◌, ◌∷◌, ◌++◌, [], List, length, slice_get, string_bytes, OnOk, OnErr, IsTrue, ◌↔◌, option_map};
 
-use std::alloc::{AllocFailed, Global};
+use groundwork::Memory;
+use std::alloc::Global;
 use std::marker::Model;
-use thiserror::Error;
-
-/// No memory was left.
-#[derive(Clone, Copy, Debug, PartialEq, Error)]
-#[error("out of memory")]
-pub struct Memory;
-
-impl<T: Drop> From<AllocFailed<T>> for Memory {
-    fn from(_failed: AllocFailed<T>) -> Memory {
-        Memory
-    }
-}
 
 /// The words behind a program's name, in order. Contracts see the list of their bytes.
 #[derive(Drop)]
@@ -47,7 +36,7 @@ impl Words {
         ensures ok { OnOk result (self.new ≡ self.old ++ word.now ∷ []) }
         ensures err { OnErr result (self.new ≡ self.old) }
     {
-        let text = String::from_str(self.alloc, word).map_err(|_| Memory)?;
+        let text = String::from_str(self.alloc, word)?;
         self.texts.push(text)?;
         Ok(())
     }

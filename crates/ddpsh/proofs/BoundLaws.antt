@@ -8,7 +8,7 @@ use Rattle.plain_volume.specs.declared.call.Call.TheVariants as call
 use Rattle.plain_volume.specs.declared.call.Reply.{Reply}
 use Rattle.plain_volume.specs.declared.call.Fault.{Fault}
 use Rattle.plain_volume.specs.declared.call.Fault.TheVariants as fault
-use Rattle.volume_tables.specs.Tables.{would_wear}
+use Rattle.volume_core.specs.States.{wears_at}
 use Rattle.volume_core.specs.Bounds.{changed_by, HasSpent, IsSpentIn}
 use Rattle.volume_core.specs.Volumes.{clusters_in, view_now, stopped}
 use Rattle.volume_core.specs.Wants.{wants_of}
@@ -87,10 +87,10 @@ module _ {D : Type 0} {d : Ghosts D} where
     spent = λ call want wants.
         never_worn (2 ^ 48 - 2 ≤ i) n b (view_now v) call want (λ worn. omega (arith, worn, few))
         (subst (λ (k : ℕ). IsSpentIn (2 ^ 48 - 2 ≤ i) k (view_now v) b call want) same (law b i call want has wants));
-    flushes = by (would_wear v.tables) refl;
+    flushes = by (wears_at (volume_state v)) refl;
   }
     where
-      by : (wears : Bool) → would_wear v.tables ≡ wears → wants_of v call.Flush ≡ None
+      by : (wears : Bool) → wears_at (volume_state v) ≡ wears → wants_of v call.Flush ≡ None
       by true is =
           let worn : 2 ^ 48 - 2 ≤ i =
           law b i call.Flush fault.Worn has (ap (λ (w : Bool). cond w (Some fault.Worn) None) is) in

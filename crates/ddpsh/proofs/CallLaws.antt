@@ -18,11 +18,11 @@ use Rattle.plain_volume.specs.declared.call.Reply.TheVariants as reply
 use Rattle.plain_volume.specs.declared.call.Fault.{Fault}
 use Rattle.plain_volume.specs.declared.call.Fault.TheVariants as fault
 use Rattle.volume_tables.specs.Wants.{is_late, reply_of, IsReplied}
-use Rattle.volume_tables.proofs.Spared.{spared_same}
 use Rattle.cmdlet_line.specs.Lines.{Ask, Create, Write, Read, Fill, Length, Rename, Delete, Digest, Stat, Listing, Flush, Exit}
 use Rattle.meta_log.specs.Meta.{last_epoch}
 use Rattle.volume_inside.specs.Inside.{Inside}
-use Rattle.volume_core.specs.States.{volume_in}
+use Rattle.volume_core.specs.States.{volume_in, wears_at}
+use Rattle.volume_core.proofs.Moving.{after_leaves}
 use Rattle.volume_core.specs.Moves.{Moves, inside_after}
 use Rattle.volume_core.specs.Replies.{RepliesOrMemory}
 use Rattle.ddpsh.specs.States.{State, reply_in}
@@ -223,8 +223,18 @@ module _ {D : Type 0} {d : Ghosts D} where
   took call old new given takes (inr memory) = inr (memory, takes)
 
   -- a file's length is asked for
-  pub stat_moves : (v : Engine D d) (name : List ℕ) (given : Reply) → ((volume_state v).wears ≡ true → (volume_state v).epoch ≡ last_epoch) → Moves (call.Stat name) given (volume_state v) (volume_state v)
-  stat_moves v name given law = record { inside = sym (stat_inside (volume_state v).inside name given); clusters = refl; reads = λ none. refl; spared = λ f is. spared_same (λ (s : State). s.epoch) f (volume_state v) (volume_state v) refl; stands = omega arith; epoch = λ h. omega arith; wears = law }
+  pub stat_moves : (v : Engine D d) (name : List ℕ) (given : Reply)
+      → (wears_at (volume_state v) ≡ true → (volume_state v).pending.epoch ≡ last_epoch)
+      → Moves (call.Stat name) given (volume_state v) (volume_state v)
+  stat_moves v name given law = record {
+    told = λ told. sym (after_leaves (call.Stat name) given (volume_state v) refl refl);
+    inside = sym (stat_inside (volume_state v).inside name given);
+    clusters = refl;
+    reads = λ none. refl;
+    stands = omega arith;
+    epoch = λ h. omega arith;
+    wears = law;
+  }
 
   made_one : (call : Call) (old new : Engine D d) (given : Reply) → Stepped call old new given → Made (volume_state old) (volume_state new) ((call, given) ∷ [])
   made_one call old new given did = record { legal = (did.step, tt); now = did.left; inside = did.moves.inside; clusters = did.moves.clusters }

@@ -11,11 +11,11 @@ use Rattle.plain_volume.specs.declared.call.Fault.TheVariants as fault
 use Rattle.volume_inside.specs.Layout.{half_bytes}
 use Rattle.volume_inside.specs.Rules.{next_id_of}
 use Rattle.volume_tables.specs.Sizes.{tables_bytes}
-use Rattle.volume_tables.specs.Wants.{Needs, last_id}
+use Rattle.volume_tables.specs.Pending.{Needs, Pending, last_id, wears_in, finds_room, settled}
 use Rattle.volume_files.specs.Lengths.{for_file, length_of}
 use Rattle.volume_files.specs.Needs.{create_needs, rename_needs, delete_needs, write_needs, length_needs}
 use Rattle.volume_core.specs.Moves.{Moves}
-use Rattle.volume_core.specs.States.{wants_in, wants_but_epochs, wanting_in, write_wants_in, file_in, left_in, tables_told, IsStateOf}
+use Rattle.volume_core.specs.States.{wears_at, wants_in, wants_but_epochs, wanting_in, write_wants_in, file_in, left_in, tables_told, IsStateOf}
 use Rattle.ddpsh.specs.States.{State, reply_in}
 use Rattle.script_items.specs.Script.{Item, Bad, Bare, Paid, Cut, Spoilt}
 use Rattle.answer_text.specs.Answers.{Answer, Nothing, Refused, said, refusal_text}
@@ -26,22 +26,23 @@ use Rattle.ddpsh.proofs.BoundLaws.{changed_once}
 
 -- ---- what is wanting where no epoch is
 
--- the state in which no commit is refused
+-- the state in which nothing waits for a commit, at the first epoch
 abbrev fresh_in : State → State
-fresh_in s = record { clusters = s.clusters; inside = s.inside; epoch = 0; wears = false; has_room = λ needs. true }
+fresh_in s = record { clusters = s.clusters; inside = s.inside; pending = settled 0 0 0 }
 
 and_none : (a b : Bool) → b ≡ false → (a && b) ≡ false
 and_none true b none = none
 and_none false b none = refl
 
-module _ (s : State) (fresh : s.wears ≡ false) where
+module _ (s : State) (fresh : wears_at s ≡ false) where
   wanting_fresh : (n : Needs) → wanting_in s n ≡ wanting_in (fresh_in s) n
   wanting_fresh n =
       ap (λ (b : Bool). cond (n.draws && nat_eq (next_id_of (tables_told s.inside)) last_id) (Some fault.Worn)
       (cond (nat_lt (half_bytes s.clusters) (tables_bytes (tables_told s.inside) + n.grows)) (Some fault.TableFull)
       (cond (nat_lt (left_in s) n.clusters) (Some (fault.Full n.clusters (left_in s)))
       (cond b (Some fault.Worn) None))))
-      (and_none (not (s.has_room n)) s.wears fresh)
+      (and_none (not (finds_room s.pending n)) (wears_at s) fresh
+      ∙ sym (and_none (not (finds_room (settled 0 0 0) n)) (wears_at (fresh_in s)) refl))
 
   file_fresh : (found : Option ℕ) (one other : ℕ → Option Fault) → ((id : ℕ) → one id ≡ other id)
       → for_file found one ≡ for_file found other
@@ -67,11 +68,15 @@ module _ (s : State) (fresh : s.wears ≡ false) where
 
 -- ---- what a line does to the epoch
 
+-- a commit is refused as worn only where the last epoch is taken
+abbrev pub IsLateWorn : State → Type 0
+IsLateWorn s = wears_at s ≡ true → s.pending.epoch ≡ last_epoch
+
 -- a line takes an epoch at most, and one is wanting after it only at the last, if it was so before it
 pub record Passes (before after : State) : Type 0 where
-  pub stands : before.epoch ≤ after.epoch
-  pub most : after.epoch ≤ before.epoch + 1
-  pub wears : (before.wears ≡ true → before.epoch ≡ last_epoch) → after.wears ≡ true → after.epoch ≡ last_epoch
+  pub stands : before.pending.epoch ≤ after.pending.epoch
+  pub most : after.pending.epoch ≤ before.pending.epoch + 1
+  pub wears : IsLateWorn before → IsLateWorn after
 
 same_passes : (before after : State) → after ≡ before → Passes before after
 same_passes before after same =
@@ -123,11 +128,12 @@ module _ (before : State) (calls : List (Call × Reply)) (answer : Answer) (afte
 
 -- a state after so many lines: an epoch is wanting only at the last
 abbrev pub IsFresh : ℕ → ℕ → State → Type 0
-IsFresh opened lines s = IsWithin opened lines s × (s.wears ≡ true → s.epoch ≡ last_epoch)
+IsFresh opened lines s = IsWithin opened lines s × IsLateWorn s
 
-pub fresh_start : (image : List ℕ) (s : State) → IsStateOf image s → IsFresh s.epoch 0 s
+pub fresh_start : (image : List ℕ) (s : State) → IsStateOf image s → IsFresh s.pending.epoch 0 s
 fresh_start image s is =
-    ((omega arith, omega arith), λ wears. absurd (let clash : true ≡ false = sym wears ∙ is.settled.wears in cc))
+    let never : wears_at s ≡ false = ap (λ (p : Pending). wears_in (half_bytes s.clusters) p) is.pending in
+    ((omega arith, omega arith), λ wears. absurd (let clash : true ≡ false = sym wears ∙ never in cc))
 
 pub fresh_more : (opened lines : ℕ) (e : Entry) (before : State) → Comes e.item before e.calls e.answer e.after
     → IsFresh opened lines before → IsFresh opened (lines + 1) e.after
@@ -150,22 +156,23 @@ fresh_all opened lines (e ∷ es) before answers fresh =
     ((rest.0.0, omega (arith, most)), rest.1)
 
 -- too few lines to come to the last epoch
-pub none_wears : (opened lines : ℕ) (s : State) → IsFresh opened lines s → opened + lines < last_epoch → s.wears ≡ false
-none_wears opened lines s fresh far = by s.wears refl
+pub none_wears : (opened lines : ℕ) (s : State) → IsFresh opened lines s → opened + lines < last_epoch
+    → wears_at s ≡ false
+none_wears opened lines s fresh far = by (wears_at s) refl
   where
-    by : (b : Bool) → s.wears ≡ b → s.wears ≡ false
+    by : (b : Bool) → wears_at s ≡ b → wears_at s ≡ false
     by true is =
-        let last : s.epoch ≡ last_epoch = fresh.1 is in
-        let most : s.epoch ≤ opened + lines = fresh.0.1 in
+        let last : s.pending.epoch ≡ last_epoch = fresh.1 is in
+        let most : s.pending.epoch ≤ opened + lines = fresh.0.1 in
         absurd (omega (arith, last, most, far))
     by false is = is
 
 pub few_want_none : FewLinesWantNoEpoch
 few_want_none image opening script es rest now is served far =
-    let all : IsFresh opening.epoch (0 + length es) (left_by opening es) =
-    fresh_all opening.epoch 0 es opening served.answers (fresh_start image opening is) in
-    let here : IsFresh opening.epoch (length es) now =
-    subst (λ (s : State). IsFresh opening.epoch (length es) s) (sym served.state)
+    let all : IsFresh opening.pending.epoch (0 + length es) (left_by opening es) =
+    fresh_all opening.pending.epoch 0 es opening served.answers (fresh_start image opening is) in
+    let here : IsFresh opening.pending.epoch (length es) now =
+    subst (λ (s : State). IsFresh opening.pending.epoch (length es) s) (sym served.state)
     (let most = all.0.1 in ((all.0.0, omega (arith, most)), all.1)) in
-    let fresh : now.wears ≡ false = none_wears opening.epoch (length es) now here far in
+    let fresh : wears_at now ≡ false = none_wears opening.pending.epoch (length es) now here far in
     (here.0, fresh, wants_fresh now fresh)

@@ -7,8 +7,7 @@ pub mod ListLaws
 pub mod LineOfLaws
 pub mod StageLaws
 pub mod ClockLaws
-pub mod OneOutput
+pub mod OneRun
 pub mod EpochLaws
-pub mod FixedStates
 pub mod TopLaws
 pub mod CompleteLaws

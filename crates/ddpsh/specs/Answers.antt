@@ -14,8 +14,8 @@ use Rattle.ddpsh.specs.Listing.{listing}
 use Rattle.answer_text.specs.Answers.{Answer, Nothing, Accepted, Refused, number, refusal_text, said, file_lines}
 use Rattle.script_items.specs.Script.{Item, Bad, Bare, Paid, Cut, Spoilt}
 
--- A line of one call. The volume gives the plain machine's own reply, or the resource that is wanting, and no setting,
--- result or id changes that is not the call's own.
+-- A line of one call. The volume gives the plain machine's own reply, or the resource that is wanting, and leaves the
+-- state that the call with this reply leaves.
 pub record OneCall (call : Call) (before : State) (calls : List (Call × Reply)) (answer : Answer) (after : State) : Type 0 where
   pub calls_are : calls ≡ (call, reply_in before call) ∷ []
   pub says : said (reply_in before call) ≡ Some answer

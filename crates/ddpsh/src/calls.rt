@@ -16,7 +16,8 @@ use answer_text::{
     refused_call, refused_line, silent,
 };
 use cmdlet_line::{Line, LineFault};
-use plain_volume::{Fault, own_replies_are_steps};
+use plain_volume::Fault;
+use plain_volume::laws::own_replies_are_steps;
 use script_items::is_spoilt_at;
 use std::alloc::Global;
 use vdisk::Disk;

@@ -17,7 +17,7 @@ pub use acks::{Ack, Acks};
 pub use answer_text::{Answered, SessionFault};
 pub use commands::{Command, command_of};
 pub use laws::{
-    few_lines_want_no_epoch, items_have_one_answer, outputs_fix_states, scripts_have_one_output,
+    few_lines_want_no_epoch, images_fix_states, items_have_one_answer, scripts_have_one_run,
 };
 pub use limits::{FEWEST_CLUSTERS, MOST_CALLS_OF_A_LINE, MOST_CLUSTERS};
 pub use script_items::{MOST_AHEAD, MOST_SCRIPT};

@@ -10,10 +10,10 @@ use row_files::RowFault;
 use std::alloc::Global;
 use vdisk::{Disk, MemoryDisk};
 use volume_inside::settings_hold;
-use volume_tables::{
-    JobKind, ResultRecord, Settings, Tables, results_of_known_numbers_keep_the_rules,
-    settings_in_their_ranges_keep_the_rules,
+use volume_tables::laws::{
+    results_of_known_numbers_keep_the_rules, settings_in_their_ranges_keep_the_rules,
 };
+use volume_tables::{JobKind, ResultRecord, Settings, Tables};
 
 /// A job of this kind ended well at this second.
 #[derive(Clone, Copy)]

@@ -5,7 +5,7 @@ ghost use Rattle.hash_index.specs.Calls.{CanAsk, Gives, AnswersAreAlike, FitsReq
 use crate::traits::{Digests, Index};
 
 /// A call of an index.
-#[derive(Clone, Copy, PartialEq, Eq, Debug)]
+#[derive(Clone, Copy, Debug)]
 pub enum Request {
     /// The least known id above `after` with the digest.
     Find { digest: [u8; 32], after: u64 },
@@ -16,7 +16,7 @@ pub enum Request {
 }
 
 /// What an index answers to a call.
-#[derive(Clone, Copy, PartialEq, Eq, Debug)]
+#[derive(Clone, Copy, Debug)]
 pub enum Answer {
     /// To a find.
     Found(Option<u64>),

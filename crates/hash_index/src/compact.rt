@@ -3,7 +3,8 @@ ghost use Rattle.hash_index.specs.Pairs.{Pair, Agrees, Keeps};
 ghost use Rattle.hash_index.specs.Slots.{SlotTable, SlotsStandFor};
 
 use crate::table::Table;
-use crate::traits::{Digests, Index, Memory};
+use crate::traits::{Digests, Index};
+use groundwork::Memory;
 use std::alloc::Global;
 use std::marker::Model;
 

@@ -14,5 +14,6 @@ mod traits;
 
 pub use calls::{Answer, Request, answers_are_alike, ask};
 pub use compact::CompactIndex;
+pub use groundwork::Memory;
 pub use ordered::OrderedIndex;
-pub use traits::{Digests, Index, LARGEST_ID, Memory};
+pub use traits::{Digests, Index, LARGEST_ID};

@@ -2,7 +2,8 @@ ghost use Rattle.std.specs.Prelude.{◌≡◌, ◌<◌, ◌≤◌, ◌^◌, ◌�
 ghost use Rattle.hash_index.specs.Pairs.{Pair};
 ghost use Rattle.hash_index.specs.Ordered.{has, OrderedStandsFor};
 
-use crate::traits::{Digests, Index, Memory};
+use crate::traits::{Digests, Index};
+use groundwork::Memory;
 use std::alloc::Global;
 use std::collections::BTreeSet;
 use std::marker::Model;

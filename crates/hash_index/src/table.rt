@@ -4,7 +4,8 @@ ghost use Rattle.hash_index.specs.Slots.{SlotTable, SlotsStandFor, told_pair, kn
 
 use crate::probe;
 use crate::slot::Slot;
-use crate::traits::{Digests, Memory};
+use crate::traits::Digests;
+use groundwork::Memory;
 use std::alloc::Global;
 use std::marker::Model;
 

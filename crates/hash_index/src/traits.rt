@@ -1,36 +1,10 @@
 ghost use Rattle.std.specs.Prelude.{◌≡◌, ◌<◌, ◌≤◌, ◌↔◌, ◌∷◌, ◌++◌, [], ℕ, List, Option, OnOk, OnErr};
 ghost use Rattle.hash_index.specs.Pairs.{Pair, Agrees, Finds, IsFree, Keeps};
 
-use std::alloc::{AllocError, AllocFailed};
-use std::error::Error;
-use std::fmt;
+use groundwork::Memory;
 
 /// The largest id that an index holds: an id takes 48 bits. The least is 1.
 pub const LARGEST_ID: u64 = 0xffff_ffff_ffff;
-
-/// There was no memory for the call.
-#[derive(Clone, Copy, PartialEq, Eq, Debug)]
-pub struct Memory;
-
-impl fmt::Display for Memory {
-    fn fmt<W: fmt::Write>(&self, f: &mut fmt::Formatter<W>) -> fmt::Result {
-        write!(f, "out of memory")
-    }
-}
-
-impl Error for Memory {}
-
-impl From<AllocError> for Memory {
-    fn from(_: AllocError) -> Memory {
-        Memory
-    }
-}
-
-impl<T: Drop> From<AllocFailed<T>> for Memory {
-    fn from(_: AllocFailed<T>) -> Memory {
-        Memory
-    }
-}
 
 /// What tells the digest of an id.
 pub trait Digests {

@@ -10,7 +10,7 @@ use Rattle.byte_map.specs.Words.{Map}
 use Rattle.meta_log.specs.Meta.{is_open, epoch_of, map_of_half, live_of, map_of_live, or_damaged, meta_of}
 use Rattle.meta_log.specs.Ready.{AreHalves, IsLive, GoesOn, GoesOnFrom, Stands}
 use Rattle.meta_log.specs.Opened.{IsOnlyRead, is_live, first_choice, second_choice, IsChoice, IsChosen, chosen_layout}
-use Rattle.meta_log.specs.declared.opening.Front.{Front}
+use Rattle.meta_log.specs.declared.opening.HalfHeader.{HalfHeader}
 use Rattle.meta_log.specs.declared.opening.Choice.{Choice}
 use Rattle.meta_log.specs.declared.fault.MetaFault.TheVariants.{Damaged}
 use Rattle.meta_log.proofs.Groups.{half_spells}
@@ -65,7 +65,7 @@ live_is true false e f = refl
 live_is false true e f = refl
 live_is false false e f = refl
 
-module _ (at half : ℕ) (image : List ℕ) (first second : Front)
+module _ (at half : ℕ) (image : List ℕ) (first second : HalfHeader)
     (gate : first.is_open ≡ is_open (part at half image)) (epoch : first.epoch ≡ epoch_of (part at half image))
     (gate₂ : second.is_open ≡ is_open (part (at + half) half image)) (epoch₂ : second.epoch ≡ epoch_of (part (at + half) half image)) where
   abbrev one : List ℕ
@@ -74,14 +74,14 @@ module _ (at half : ℕ) (image : List ℕ) (first second : Front)
   abbrev two : List ℕ
   two = part (at + half) half image
 
-  by_fronts : live_of one two ≡ chosen_by (is_live first second) (is_live second first)
-  by_fronts =
+  by_headers : live_of one two ≡ chosen_by (is_live first second) (is_live second first)
+  by_headers =
       live_is (is_open one) (is_open two) (epoch_of one) (epoch_of two)
       ∙ (λ i. chosen_by (sym gate i && (not (sym gate₂ i) || nat_lt (sym epoch₂ i) (sym epoch i))) (sym gate₂ i && (not (sym gate i) || nat_lt (sym epoch i) (sym epoch₂ i))))
 
   pub none_live : is_live first second ≡ false → is_live second first ≡ false → meta_of at half image ≡ Err 2
   none_live first_dead second_dead =
-      ap (λ (o : Option ℕ). map_of_live o one two) (by_fronts ∙ (λ i. chosen_by (first_dead i) (second_dead i)))
+      ap (λ (o : Option ℕ). map_of_live o one two) (by_headers ∙ (λ i. chosen_by (first_dead i) (second_dead i)))
 
   open_is : (gate : ℕ) → (gate == 1) ≡ true → gate ≡ 1
   open_is gate test = eqb-true gate 1 test
@@ -96,7 +96,7 @@ module _ (at half : ℕ) (image : List ℕ) (first second : Front)
       let lesser : second.is_open ≡ true → epoch_of two < epoch_of one = λ is. let low = tells.1 is in omega (arith, low, epoch, epoch₂) in
       record {
         live = record { gate = open_is (get_or one 0 0) (sym gate ∙ tells.0); counts = refl; beside = beside_is (epoch_of one) second.is_open one two gate₂ lesser; lesser = lesser };
-        spells = ap (λ (o : Option ℕ). map_of_live o one two) (by_fronts ∙ ap (λ (t : Bool). chosen_by t (is_live second first)) live);
+        spells = ap (λ (o : Option ℕ). map_of_live o one two) (by_headers ∙ ap (λ (t : Bool). chosen_by t (is_live second first)) live);
       }
 
   pub second_live : is_live first second ≡ false → is_live second first ≡ true → IsChosen at half image (second_choice at half first.is_open)
@@ -105,7 +105,7 @@ module _ (at half : ℕ) (image : List ℕ) (first second : Front)
       let lesser : first.is_open ≡ true → epoch_of one < epoch_of two = λ is. let low = tells.1 is in omega (arith, low, epoch, epoch₂) in
       record {
         live = record { gate = open_is (get_or two 0 0) (sym gate₂ ∙ tells.0); counts = refl; beside = beside_is (epoch_of two) first.is_open two one gate lesser; lesser = lesser };
-        spells = ap (λ (o : Option ℕ). map_of_live o one two) (by_fronts ∙ (λ i. chosen_by (dead i) (live i)));
+        spells = ap (λ (o : Option ℕ). map_of_live o one two) (by_headers ∙ (λ i. chosen_by (dead i) (live i)));
       }
 
   pub chosen : (choice : Choice) → IsChoice at half first second choice → IsChosen at half image choice
@@ -114,14 +114,14 @@ module _ (at half : ℕ) (image : List ℕ) (first second : Front)
     | inr b ↦ subst (λ (c : Choice). IsChosen at half image c) (sym b.2) (second_live b.0 b.1)
   ]
 
-pub choice_halves : (at half : ℕ) (first second : Front) (choice : Choice) → IsChoice at half first second choice → AreHalves at half choice.live_at choice.other_at
+pub choice_halves : (at half : ℕ) (first second : HalfHeader) (choice : Choice) → IsChoice at half first second choice → AreHalves at half choice.live_at choice.other_at
 choice_halves at half first second choice is = elim is [
   | inl a ↦ inl (ap (λ (c : Choice). c.live_at) a.1, ap (λ (c : Choice). c.other_at) a.1)
   | inr b ↦ inr (ap (λ (c : Choice). c.live_at) b.2, ap (λ (c : Choice). c.other_at) b.2)
 ]
 
--- by fronts that were read when the disk was synced
-module _ (at half : ℕ) (old now : List ℕ) (same : now ≡ old) (long : 45 ≤ half) (first second : Front)
+-- by headers that were read when the disk was synced
+module _ (at half : ℕ) (old now : List ℕ) (same : now ≡ old) (long : 45 ≤ half) (first second : HalfHeader)
     (gate : first.is_open ≡ is_open (part at 9 now)) (epoch : first.epoch ≡ epoch_of (part at 9 now))
     (gate₂ : second.is_open ≡ is_open (part (at + half) 9 now)) (epoch₂ : second.epoch ≡ epoch_of (part (at + half) 9 now)) where
   gate_is : first.is_open ≡ is_open (part at half old)
@@ -136,11 +136,11 @@ module _ (at half : ℕ) (old now : List ℕ) (same : now ≡ old) (long : 45 �
   epoch₂_is : second.epoch ≡ epoch_of (part (at + half) half old)
   epoch₂_is = epoch₂ ∙ ap (λ (x : List ℕ). epoch_of (part (at + half) 9 x)) same ∙ front_epoch (at + half) half old long
 
-  pub fronts_chosen : (choice : Choice) → IsChoice at half first second choice → IsChosen at half old choice
-  fronts_chosen choice is = chosen at half old first second gate_is epoch_is gate₂_is epoch₂_is choice is
+  pub headers_chosen : (choice : Choice) → IsChoice at half first second choice → IsChosen at half old choice
+  headers_chosen choice is = chosen at half old first second gate_is epoch_is gate₂_is epoch₂_is choice is
 
-  pub fronts_none : (is_live first second ≡ false) × (is_live second first ≡ false) → (h : ℕ) → Damaged 2 ≡ Damaged h → meta_of at half old ≡ Err h
-  fronts_none dead h is =
+  pub headers_none : (is_live first second ≡ false) × (is_live second first ≡ false) → (h : ℕ) → Damaged 2 ≡ Damaged h → meta_of at half old ≡ Err h
+  headers_none dead h is =
       let two : ℕ = 2 in
       let number : two ≡ h = cc in
       subst (λ (k : ℕ). meta_of at half old ≡ Err k) number (none_live at half old first second gate_is epoch_is gate₂_is epoch₂_is dead.0 dead.1)

@@ -6,25 +6,14 @@ use Rattle.std.specs.declared.cmp.Ordering.TheVariants.{Less, Equal, Greater}
 use Rattle.std.specs.Ordering.{is_lt, ordering_reverse}
 use Rattle.std.specs.Cmp.Lexicographic.{nat_list_cmp_total}
 use Rattle.std.specs.FinMap.Entries.{by_order, put, find, below_all, is_sorted}
+use Rattle.groundwork.proofs.Bools.{first_true, second_true}
+use Rattle.groundwork.proofs.Orders.{is_less}
 use Rattle.byte_map.specs.Words.{Map, bytes_cmp}
 use Rattle.byte_map.specs.Laws.{is_sorted_put, is_sorted_without, length_put_new, length_put_present, length_without, bytes_in_put_new, bytes_in_put_present, bytes_in_without}
 use Rattle.meta_log.specs.Records.{Record, Put, DropRange, change}
 use Rattle.meta_log.specs.Spelled.{Fits}
 use Rattle.meta_log.specs.Short.{short_put, short_without}
 use Rattle.meta_log.specs.Reading.{IsSpellable, records_bytes, strings_bytes}
-
-first_true : (a b : Bool) → T (a && b) → T a
-first_true true b h = tt
-first_true false b h = h
-
-second_true : (a b : Bool) → T (a && b) → T b
-second_true true b h = h
-second_true false b h = absurd h
-
-is_less : (r : Ordering) → T (is_lt r) → r ≡ Less
-is_less Less h = refl
-is_less Equal h = absurd h
-is_less Greater h = absurd h
 
 -- the last of some pairs, and one more, stand in order
 last_below : (x : List ℕ) (front : Map) (e : List ℕ × List ℕ) (rest : Map) → T (below_all bytes_cmp x (front ++ e ∷ rest)) → bytes_cmp x e.0 ≡ Less

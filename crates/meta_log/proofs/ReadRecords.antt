@@ -7,6 +7,8 @@ use Rattle.std.specs.declared.cmp.Ordering.TheVariants.{Less, Equal, Greater}
 use Rattle.std.specs.FinMap.Entries.{put, is_sorted}
 use Rattle.std.proofs.lemmas.List.{drop-drop, append-nil}
 use Rattle.std.proofs.lemmas.Bool.{true≢false, eqb-true, eqb-false, or_parts}
+use Rattle.groundwork.proofs.Bools.{true_from, false_from}
+use Rattle.groundwork.proofs.Orders.{less_from}
 use Rattle.vdisk.specs.Ranges.{part}
 use Rattle.byte_map.specs.Words.{Map, bytes_cmp}
 use Rattle.meta_log.specs.Records.{Record, Put, change, changes, record_at, with_record, records_from, records_of, rest_length, pairs_of, ascending}
@@ -17,14 +19,6 @@ use Rattle.meta_log.specs.declared.head.Effect.{Effect}
 use Rattle.meta_log.specs.declared.head.Effect.TheVariants.{Sets, Drops}
 use Rattle.meta_log.specs.declared.head.RecordHead.{RecordHead}
 use Rattle.meta_log.proofs.Order.{two_rise, put_at_end, put_bytes, change_bytes, change_spellable}
-
-false_from : (b : Bool) → ¬ (T b) → b ≡ false
-false_from true never = absurd (never tt)
-false_from false never = refl
-
-true_from : (b : Bool) → T b → b ≡ true
-true_from true holds = refl
-true_from false holds = absurd holds
 
 pub drop_end : (n : ℕ) (xs : List ℕ) → length xs ≤ n → drop n xs ≡ []
 drop_end zero [] end = refl
@@ -240,11 +234,6 @@ module _ (body : List ℕ) (place : ℕ) (last : List ℕ) (m : Map) (head : Rec
       by : (o : Option Map) → and_then (option_map (λ q. (m ++ (key, value) ∷ []) ++ q) o) (λ x. ascending x) ≡ None
       by None = refl
       by (Some q) = ap (λ (t : Bool). if t then Some ((m ++ (key, value) ∷ []) ++ q) else None) (false_from (is_sorted bytes_cmp ((m ++ (key, value) ∷ []) ++ q)) (unsorted q))
-
-less_from : (r : Ordering) → is_lt r ≡ true → r ≡ Less
-less_from Less is = refl
-less_from Equal is = absurd (true≢false (sym is))
-less_from Greater is = absurd (true≢false (sym is))
 
 -- whether a key may stand behind the last one, as it was tested
 module _ (place : ℕ) (test below : Bool) (is : test ≡ (nat_eq place 0 || below)) where

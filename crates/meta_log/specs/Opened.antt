@@ -7,7 +7,7 @@ use Rattle.meta_log.specs.Meta.{epoch_of, map_of_half, or_damaged, meta_of}
 use Rattle.meta_log.specs.Ready.{Layout, IsLive}
 use Rattle.meta_log.specs.declared.fault.MetaFault.{MetaFault}
 use Rattle.meta_log.specs.declared.fault.MetaFault.TheVariants.{Damaged, Failed, Memory}
-use Rattle.meta_log.specs.declared.opening.Front.{Front}
+use Rattle.meta_log.specs.declared.opening.HalfHeader.{HalfHeader}
 use Rattle.meta_log.specs.declared.opening.Choice.{Choice}
 
 -- A disk that was only synced and read: what a crash may leave, it might have left before.
@@ -17,7 +17,7 @@ pub record IsOnlyRead (old new : DiskState) : Type 0 where
   pub later : old.faults ≤ new.faults
 
 -- a half is live beside the other one
-abbrev pub is_live : Front → Front → Bool
+abbrev pub is_live : HalfHeader → HalfHeader → Bool
 is_live one other = one.is_open && (not other.is_open || nat_lt other.epoch one.epoch)
 
 abbrev pub first_choice : ℕ → ℕ → Bool → Choice
@@ -26,8 +26,8 @@ first_choice at half other_open = record { number = 0; live_at = at; other_at = 
 abbrev pub second_choice : ℕ → ℕ → Bool → Choice
 second_choice at half other_open = record { number = 1; live_at = at + half; other_at = at; other_open = other_open }
 
--- the half that is live by the fronts of both
-abbrev pub IsChoice : ℕ → ℕ → Front → Front → Choice → Type 0
+-- the half that is live by the headers of both
+abbrev pub IsChoice : ℕ → ℕ → HalfHeader → HalfHeader → Choice → Type 0
 IsChoice at half first second choice =
     ((is_live first second ≡ true) × (choice ≡ first_choice at half second.is_open))
     ⊎ ((is_live first second ≡ false) × (is_live second first ≡ true) × (choice ≡ second_choice at half first.is_open))

@@ -8,7 +8,7 @@ ghost use Rattle.meta_log.specs.Ready.{IsCommitImage, IsSettledImage};
 
 use crate::fault::MetaFault;
 use crate::group::{seal, write_group};
-use crate::limits::GROUP_FRONT;
+use crate::limits::BEFORE_BODY;
 use crate::log::MetaLog;
 use vdisk::{Disk, write_synced};
 
@@ -52,7 +52,7 @@ impl<D: Disk> MetaLog<D> {
         )?;
         write_synced(&mut self.disk, self.live_at + self.place, &[1])?;
         self.place = next;
-        self.staged.truncate(GROUP_FRONT);
+        self.staged.truncate(BEFORE_BODY);
         self.stopped = false;
         Ok(())
     }

@@ -143,14 +143,14 @@ impl HashedStream {
     }
 }
 
-/// Writes the body of a map's checkpoint from a place on, with these bytes behind it. The front is the epoch and the
+/// Writes the body of a map's checkpoint from a place on, with these bytes behind it. The numbers are the epoch and the
 /// body's length; the digest is that of these two and the body.
 pub(crate) fn write_body<D: Disk>(
     disk: &mut D,
     scratch: &mut Vec<u8>,
     map: &ByteMap,
     from: u64,
-    front: (u64, u32),
+    numbers: (u64, u32),
     behind: &[u8],
 ) -> Result<[u8; 32], Failed>
     requires room { STREAM_ROOM ≤ vec_capacity scratch.old }
@@ -161,7 +161,7 @@ pub(crate) fn write_body<D: Disk>(
     ensures text { IsTrue (D.state disk.old).tells → OnOk result (part from (length (body_text map.now ++ behind.now))
         (D.state disk.new).image ≡ body_text map.now ++ behind.now) }
     ensures digest { IfOk result (λ digest. digest
-        ≡ digest_of ((big_bytes 8 front.0 ++ big_bytes 4 front.1) ++ body_text map.now)) }
+        ≡ digest_of ((big_bytes 8 numbers.0 ++ big_bytes 4 numbers.1) ++ body_text map.now)) }
     ensures size { IfOk result (λ digest. length digest ≡ 32) }
     ensures within { WritesWithin from ((5 * length map.now + bytes_in map.now) + length behind.now)
         (D.state disk.old) (D.state disk.new) }
@@ -171,8 +171,8 @@ pub(crate) fn write_body<D: Disk>(
 {
     scratch.clear();
     let mut hasher = Sha256::new();
-    hasher.update(&front.0.to_be_bytes());
-    hasher.update(&front.1.to_be_bytes());
+    hasher.update(&numbers.0.to_be_bytes());
+    hasher.update(&numbers.1.to_be_bytes());
     let mut body = HashedStream {
         stream: DiskStream { place: from },
         hasher,

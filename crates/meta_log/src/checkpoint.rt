@@ -29,15 +29,15 @@ pub(crate) fn body_bytes(map: &ByteMap) -> u64
 }
 
 // What stands before a body: its epoch and length, and the digest of these and the body.
-fn put_header(scratch: &mut Vec<u8>, front: (u64, u32), digest: &[u8])
+fn put_header(scratch: &mut Vec<u8>, numbers: (u64, u32), digest: &[u8])
     requires room { STREAM_ROOM ≤ vec_capacity scratch.old }
     requires size { length digest.now ≡ 32 }
-    ensures items { scratch.new.items ≡ (big_bytes 8 front.0 ++ big_bytes 4 front.1) ++ digest.now }
+    ensures items { scratch.new.items ≡ (big_bytes 8 numbers.0 ++ big_bytes 4 numbers.1) ++ digest.now }
     ensures room { vec_capacity scratch.old ≤ vec_capacity scratch.new }
 {
     scratch.clear();
-    scratch.extend_from_slice(&front.0.to_be_bytes()).unwrap();
-    scratch.extend_from_slice(&front.1.to_be_bytes()).unwrap();
+    scratch.extend_from_slice(&numbers.0.to_be_bytes()).unwrap();
+    scratch.extend_from_slice(&numbers.1.to_be_bytes()).unwrap();
     scratch.extend_from_slice(digest).unwrap();
 }
 
@@ -73,10 +73,10 @@ fn write_behind<D: Disk>(
     ensures cause { HasCause (D.state disk.old).faults (D.state disk.new).faults result }
 {
     let length = body_bytes(map);
-    let front = (epoch, length as u32);
+    let numbers = (epoch, length as u32);
     let behind = closed_gate(half - (LEAST_HALF + length));
-    let digest = write_body(disk, scratch, map, at + LEAST_HALF, front, behind)?;
-    put_header(scratch, front, &digest);
+    let digest = write_body(disk, scratch, map, at + LEAST_HALF, numbers, behind)?;
+    put_header(scratch, numbers, &digest);
     write_synced(disk, at + 1, scratch)
 }
 

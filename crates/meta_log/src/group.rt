@@ -7,7 +7,7 @@ ghost use Rattle.meta_log.specs.Meta.{digest_of};
 ghost use Rattle.meta_log.specs.Group.{group_text, gate_behind};
 
 use crate::digest::digest_of_parts;
-use crate::limits::GROUP_FRONT;
+use crate::limits::BEFORE_BODY;
 use byteorder::{BigEndian, ByteOrder};
 use vdisk::{Disk, Failed, write_synced};
 
@@ -28,10 +28,10 @@ fn seal_bytes(group: &mut [u8])
     requires short { length group.old ≤ 65572 }
     ensures { group.new ≡ group_text (drop 36 group.old) }
 {
-    let count = (group.len() - GROUP_FRONT) as u32;
+    let count = (group.len() - BEFORE_BODY) as u32;
     BigEndian::write_u32(group, count);
     let digest = group_digest(group);
-    group[4..GROUP_FRONT].copy_from_slice(&digest);
+    group[4..BEFORE_BODY].copy_from_slice(&digest);
 }
 
 // The digest of a group's length and body.
@@ -40,7 +40,7 @@ fn group_digest(group: &[u8]) -> [u8; 32]
     ensures digest { result ≡ digest_of (take 4 group.now ++ drop 36 group.now) }
     ensures size { length result ≡ 32 }
 {
-    digest_of_parts(&group[..4], &group[GROUP_FRONT..])
+    digest_of_parts(&group[..4], &group[BEFORE_BODY..])
 }
 
 /// Writes a group at the place behind its gate, with a closed gate behind it where that is asked, and syncs.

@@ -10,7 +10,7 @@ pub const LEAST_HALF: u64 = 45;
 pub(crate) const GROUP_HEAD: u64 = 37;
 
 // A group's length and digest, which stand between its gate and its body.
-pub(crate) const GROUP_FRONT: usize = 36;
+pub(crate) const BEFORE_BODY: usize = 36;
 
 // A record before its two strings: tag and two lengths.
 pub(crate) const RECORD_HEAD: u64 = 5;

@@ -18,7 +18,7 @@ use vdisk::{Disk, Failed};
 
 // The gate and the epoch of a half.
 #[derive(Clone, Copy)]
-struct Front {
+struct HalfHeader {
     is_open: bool,
     epoch: u64,
 }
@@ -32,51 +32,55 @@ struct Choice {
     other_open: bool,
 }
 
-fn read_front<D: Disk>(disk: &mut D, at: u64) -> Result<Front, Failed>
+fn read_header<D: Disk>(disk: &mut D, at: u64) -> Result<HalfHeader, Failed>
     requires { at + 9 ≤ length (D.state disk.old).image }
     ensures gate { IsTrue (D.state disk.old).tells →
-        IfOk result (λ front. front.is_open ≡ is_open (part at 9 (D.state disk.old).image)) }
+        IfOk result (λ header. header.is_open ≡ is_open (part at 9 (D.state disk.old).image)) }
     ensures epoch { IsTrue (D.state disk.old).tells →
-        IfOk result (λ front. front.epoch ≡ epoch_of (part at 9 (D.state disk.old).image)) }
+        IfOk result (λ header. header.epoch ≡ epoch_of (part at 9 (D.state disk.old).image)) }
     ensures read { IsOnlyRead (D.state disk.old) (D.state disk.new) }
     ensures same { D.is_same disk.old disk.new }
     ensures failed { OnErr result (Rose (D.state disk.old).faults (D.state disk.new).faults) }
 {
     let mut bytes = [0; 9];
     disk.read(at, &mut bytes)?;
-    Ok(Front {
+    Ok(HalfHeader {
         is_open: bytes[0] == 1,
         epoch: epoch_in(&bytes),
     })
 }
 
-fn read_fronts<D: Disk>(disk: &mut D, at: u64, half: u64) -> Result<(Front, Front), Failed>
+fn read_headers<D: Disk>(
+    disk: &mut D,
+    at: u64,
+    half: u64,
+) -> Result<(HalfHeader, HalfHeader), Failed>
     requires range { at + 2 * half ≤ length (D.state disk.old).image }
     requires least { 45 ≤ half }
     ensures first_gate { IsTrue (D.state disk.old).tells →
-        IfOk result (λ fronts. fronts.0.is_open ≡ is_open (part at 9 (D.state disk.old).image)) }
+        IfOk result (λ headers. headers.0.is_open ≡ is_open (part at 9 (D.state disk.old).image)) }
     ensures first_epoch { IsTrue (D.state disk.old).tells →
-        IfOk result (λ fronts. fronts.0.epoch ≡ epoch_of (part at 9 (D.state disk.old).image)) }
+        IfOk result (λ headers. headers.0.epoch ≡ epoch_of (part at 9 (D.state disk.old).image)) }
     ensures second_gate { IsTrue (D.state disk.old).tells →
-        IfOk result (λ fronts. fronts.1.is_open ≡ is_open (part (at + half) 9 (D.state disk.old).image)) }
+        IfOk result (λ headers. headers.1.is_open ≡ is_open (part (at + half) 9 (D.state disk.old).image)) }
     ensures second_epoch { IsTrue (D.state disk.old).tells →
-        IfOk result (λ fronts. fronts.1.epoch ≡ epoch_of (part (at + half) 9 (D.state disk.old).image)) }
+        IfOk result (λ headers. headers.1.epoch ≡ epoch_of (part (at + half) 9 (D.state disk.old).image)) }
     ensures read { IsOnlyRead (D.state disk.old) (D.state disk.new) }
     ensures same { D.is_same disk.old disk.new }
     ensures failed { OnErr result (Rose (D.state disk.old).faults (D.state disk.new).faults) }
 {
-    let first = read_front(disk, at)?;
-    let second = read_front(disk, at + half)?;
+    let first = read_header(disk, at)?;
+    let second = read_header(disk, at + half)?;
     Ok((first, second))
 }
 
-fn is_live(one: Front, other: Front) -> bool
+fn is_live(one: HalfHeader, other: HalfHeader) -> bool
     ensures { result ≡ is_live one other }
 {
     one.is_open && (!other.is_open || other.epoch < one.epoch)
 }
 
-fn choose(first: Front, second: Front, at: u64, half: u64) -> Option<Choice>
+fn choose(first: HalfHeader, second: HalfHeader, at: u64, half: u64) -> Option<Choice>
     requires { at + half < 2 ^ 64 }
     ensures some { IfSome result (λ choice. IsChoice at half first second choice) }
     ensures none { IfNone result ((is_live first second ≡ false) × (is_live second first ≡ false)) }
@@ -117,7 +121,7 @@ fn find_live<D: Disk>(disk: &mut D, at: u64, half: u64) -> Result<Choice, MetaFa
     ensures failed { IsErrOf result MetaFault.Failed → Rose (D.state disk.old).faults (D.state disk.new).faults }
 {
     disk.sync()?;
-    let (first, second) = read_fronts(disk, at, half)?;
+    let (first, second) = read_headers(disk, at, half)?;
     match choose(first, second, at, half) {
         Some(choice) => Ok(choice),
         None => Err(MetaFault::Damaged(2)),

@@ -14,7 +14,7 @@ use byte_map::ByteMap;
 use std::alloc::{AllocError, Global};
 
 /// Why a half was not read.
-#[derive(Clone, Copy, Debug, PartialEq, Eq)]
+#[derive(Clone, Copy, Debug)]
 pub(crate) enum Unread {
     Damaged,
     Memory,

@@ -10,7 +10,7 @@ ghost use Rattle.meta_log.specs.Stream.{WritesWithin};
 
 use crate::checkpoint::{body_bytes, write_half};
 use crate::fault::MetaFault;
-use crate::limits::{GROUP_FRONT, LAST_EPOCH, LEAST_HALF};
+use crate::limits::{BEFORE_BODY, LAST_EPOCH, LEAST_HALF};
 use crate::log::MetaLog;
 use vdisk::{Disk, write_synced};
 
@@ -81,7 +81,7 @@ impl<D: Disk> MetaLog<D> {
         self.other_open = true;
         self.epoch = epoch;
         self.place = place;
-        self.staged.truncate(GROUP_FRONT);
+        self.staged.truncate(BEFORE_BODY);
         self.stopped = false;
         Ok(())
     }

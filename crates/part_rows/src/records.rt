@@ -4,8 +4,8 @@ use crate::spelled;
 use row_files::{Answers, Asked, RowFault, Steps};
 use std::alloc::Global;
 use table_records::{
-    Extent, Extents, FileRecord, Files, JobKind, ResultRecord, Results, Settings, Volume,
-    VolumeRecord, is_well_formed,
+    Extent, ExtentTable, FileRecord, FileTable, JobKind, ResultRecord, ResultTable, Settings,
+    VolumeRecord, VolumeTable, is_well_formed,
 };
 use volume_inside::{read_superblock, write_superblock};
 
@@ -48,7 +48,7 @@ fn volume(mut asked: Asked<'_>, answers: &mut Answers) -> Result<(), RowFault> {
         version: asked.short_number()?,
         next_id: asked.number()?,
     };
-    Ok(spelled::record::<Volume>(answers, (), record)?)
+    Ok(spelled::record::<VolumeTable>(answers, (), record)?)
 }
 
 /// Tells the record of a name.
@@ -69,7 +69,7 @@ fn file_in(asked: &mut Asked<'_>) -> Result<FileRecord, RowFault> {
 /// Tells the record of a file.
 fn file(mut asked: Asked<'_>, answers: &mut Answers) -> Result<(), RowFault> {
     let id = asked.number()?;
-    Ok(spelled::record::<Files>(answers, id, file_in(&mut asked)?)?)
+    Ok(spelled::record::<FileTable>(answers, id, file_in(&mut asked)?)?)
 }
 
 /// The number that the next word writes, of 16 bits.
@@ -87,7 +87,7 @@ fn extent(mut asked: Asked<'_>, answers: &mut Answers) -> Result<(), RowFault> {
         cluster: asked.short_number()?,
         valid: small_number(&mut asked)?,
     };
-    Ok(spelled::record::<Extents>(answers, key, extent)?)
+    Ok(spelled::record::<ExtentTable>(answers, key, extent)?)
 }
 
 /// The kind of job of a number.
@@ -105,7 +105,7 @@ fn result(mut asked: Asked<'_>, answers: &mut Answers) -> Result<(), RowFault> {
         second: asked.number()?,
         result: asked.byte()?,
     };
-    Ok(spelled::record::<Results>(answers, kind, record)?)
+    Ok(spelled::record::<ResultTable>(answers, kind, record)?)
 }
 
 /// Tells whether a pair is one of a table.

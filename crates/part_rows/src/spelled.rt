@@ -1,7 +1,7 @@
 // Records, as their tables spell them.
 use row_files::Answers;
 use std::alloc::AllocError;
-use table_records::{Names, Table, is_well_formed};
+use table_records::{NameTable, Table, is_well_formed};
 
 /// Tells the key and the value of a record, and where they are not well formed.
 fn tell(answers: &mut Answers, key: &[u8], value: &[u8]) -> Result<(), AllocError> {
@@ -35,7 +35,7 @@ pub fn name(answers: &mut Answers, name: &[u8], id: u64) -> Result<(), AllocErro
     }
     let mut keys = [0xff; 256];
     let mut values = [0xff; 64];
-    let key_length = Names::write_key(name, &mut keys);
-    let value_length = Names::write_value(id, &mut values);
+    let key_length = NameTable::write_key(name, &mut keys);
+    let value_length = NameTable::write_value(id, &mut values);
     tell(answers, &keys[..key_length], &values[..value_length])
 }

@@ -6,6 +6,7 @@ use Rattle.std.specs.Ordering.{is_eq, is_lt, eq_by_cmp}
 use Rattle.std.specs.Cmp.{tied_itself}
 use Rattle.std.specs.Cmp.Lexicographic.{nat_list_cmp_total}
 use Rattle.std.specs.FinMap.Entries.{find, put, by_order, below_all, is_sorted}
+use Rattle.groundwork.proofs.Bools.{both_true}
 use Rattle.plain_volume.specs.Volume.{name_cmp, cells_of, with_file, cells_from, without_file}
 use Rattle.plain_volume.specs.Files.{Named, IsBelow, IsRising, BelongsAt, name_at, bytes_at, volume_of}
 use Rattle.plain_volume.proofs.Order.{below_flipped}
@@ -113,14 +114,10 @@ module _ (name : List ℕ) where
 
 -- ---- names that rise
 
-both : (a b : Bool) → T a → T b → T (a && b)
-both true b p q = q
-both false b p q = p
-
 below_rest : (name : List ℕ) (es : List Named) → ((j : ℕ) → j < length es → IsBelow name (name_at es j)) → T (below_all name_cmp name (volume_of es))
 below_rest name [] above = tt
-below_rest name (e ∷ es) above = both _ _ (subst (λ o. T (is_lt o)) (sym (above 0 (omega arith))) tt) (below_rest name es (λ j less. above (suc j) (omega arith)))
+below_rest name (e ∷ es) above = both_true _ _ (subst (λ o. T (is_lt o)) (sym (above 0 (omega arith))) tt) (below_rest name es (λ j less. above (suc j) (omega arith)))
 
 pub rising_sorted : (es : List Named) → IsRising es → T (is_sorted name_cmp (volume_of es))
 rising_sorted [] up = tt
-rising_sorted (e ∷ es) up = both _ _ (below_rest e.0 es (λ j less. up 0 (suc j) (omega arith) (omega arith))) (rising_sorted es (λ i j less inside. up (suc i) (suc j) (omega arith) (omega arith)))
+rising_sorted (e ∷ es) up = both_true _ _ (below_rest e.0 es (λ j less. up 0 (suc j) (omega arith) (omega arith))) (rising_sorted es (λ i j less inside. up (suc i) (suc j) (omega arith) (omega arith)))

@@ -1,7 +1,7 @@
 // Names and bytes, which contracts see as lists of numbers.
 ghost use Rattle.std.specs.Prelude.{◌≡◌, ℕ, List, IfOk};
 
-use crate::Memory;
+use groundwork::Memory;
 use std::alloc::Global;
 use std::marker::Model;
 

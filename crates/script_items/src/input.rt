@@ -5,14 +5,19 @@ ghost use Rattle.script_items.specs.declared.limits.TheConstants.{MOST_SCRIPT};
 mod methods;
 mod piece;
 
+use thiserror::Error;
+
 /// Why a script is not read on.
-#[derive(Clone, Copy)]
+#[derive(Clone, Copy, Debug, Error)]
 pub enum ScriptFault {
     /// The source failed.
+    #[error("the source failed")]
     Failed,
     /// The script has more bytes than a script may have.
+    #[error("the script is too long")]
     TooLong,
     /// Memory was wanting for a payload.
+    #[error("no memory")]
     Memory,
 }
 

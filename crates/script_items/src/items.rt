@@ -1,6 +1,7 @@
 // Items from a script.
-ghost use Rattle.std.specs.Prelude.{◌≡◌, ◌≤◌, ◌<◌, ◌^◌, ℕ, List, IfOk, OnOk, IsErrOf, IsTrue, vec_capacity};
+ghost use Rattle.std.specs.Prelude.{◌≡◌, ◌≤◌, ◌<◌, ◌^◌, ℕ, List, IfOk, IfSome, OnOk, IsErrOf, IsTrue, vec_capacity};
 ghost use Rattle.vdisk.specs.Causes.{Rose};
+ghost use Rattle.cmdlet_line.specs.declared.limits.TheConstants.{MOST_COUNT};
 ghost use Rattle.script_items.specs.declared.limits.TheConstants.{MOST_SCRIPT, MOST_KEPT};
 ghost use Rattle.script_items.specs.Input.{taken, IsLeft, HasGiven, GaveTooMany};
 ghost use Rattle.script_items.specs.Script.{asked, wanted};
@@ -10,13 +11,16 @@ use crate::input::{Input, ScriptFault};
 use crate::limits::VOLUME;
 use crate::lines::read_line;
 use crate::payload::read_payload;
+use cmdlet_line::laws::what_is_asked_is_in_range;
 use cmdlet_line::{Line, parse};
 use vdisk::Source;
 
 /// How many bytes of payload a line takes.
 fn payload_count(line: &[u8]) -> Option<u64>
-    ensures { result ≡ wanted (asked line.now) }
+    ensures payload { result ≡ wanted (asked line.now) }
+    ensures few { IfSome result (λ count. count ≤ MOST_COUNT) }
 {
+    what_is_asked_is_in_range();
     match parse(line, VOLUME) {
         Err(_) => None,
         Ok(Line::Write(_, _, count)) => Some(count),

@@ -1,6 +1,7 @@
 // Payloads of a script.
 ghost use Rattle.std.specs.Prelude.{◌≡◌, ◌+◌, ◌≤◌, ◌<◌, ◌^◌, ℕ, List, length, take, drop, vec_len, IfOk, OnOk, IsErrOf, true, not};
 ghost use Rattle.vdisk.specs.Causes.{Rose};
+ghost use Rattle.cmdlet_line.specs.declared.limits.TheConstants.{MOST_COUNT};
 ghost use Rattle.script_items.specs.declared.limits.TheConstants.{MOST_SCRIPT};
 ghost use Rattle.script_items.specs.Input.{taken, IsLeft, HasGiven, GaveTooMany, IsFilled};
 ghost use Rattle.script_items.specs.Script.{ends_well};
@@ -43,12 +44,10 @@ fn read_whole<S: Source>(
 /// Room for a payload and the byte behind it; false where there is no memory for it. Of what the last payload filled
 /// nothing is zeroed.
 fn make_room(payload: &mut Vec<u8>, count: u64) -> bool
+    requires { count ≤ MOST_COUNT }
     ensures { result ≡ true → vec_len payload.new ≡ count + 1 }
 {
-    let Some(room) = (count as usize).checked_add(1) else {
-        return false;
-    };
-    payload.resize(room, 0).is_ok()
+    payload.resize(count as usize + 1, 0).is_ok()
 }
 
 /// Whether another byte than a newline stands behind so many bytes.
@@ -78,6 +77,7 @@ pub(crate) fn read_payload<S: Source>(
     payload: &mut Vec<u8>,
     count: u64,
 ) -> Result<(), ScriptFault>
+    requires { count ≤ MOST_COUNT }
     ensures payload { (total : ℕ) (s : List ℕ) → IsLeft input.old (S.left script.old) total s →
         OnOk result (IsPayload count s payload.new.items input.new (S.left script.new) total) }
     ensures grows { taken input.old ≤ taken input.new }

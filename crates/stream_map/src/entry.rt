@@ -7,7 +7,7 @@ use crate::limits::ENTRY_BYTES;
 use byteorder::{BigEndian, ByteOrder};
 
 /// One piece of a file: the chunk that holds its bytes, and their number.
-#[derive(Clone, Copy, Debug, PartialEq, Eq)]
+#[derive(Clone, Copy, Debug)]
 pub struct Entry {
     pub id: u64,
     /// In bytes.

@@ -2,7 +2,7 @@
 use thiserror::Error;
 
 /// Why bytes are no stream map.
-#[derive(Clone, Copy, Debug, PartialEq, Eq, Error)]
+#[derive(Clone, Copy, Debug, Error)]
 pub enum MapFault {
     /// There are no bytes, or the last entry is not whole.
     #[error("the length of the map is 0, or no multiple of 12")]

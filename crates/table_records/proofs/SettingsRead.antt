@@ -7,7 +7,8 @@ use Rattle.byteorder.specs.Numbers.{big_from-take}
 use Rattle.table_records.specs.declared.settings.Settings.{Settings}
 use Rattle.table_records.specs.Orders.{some_same}
 use Rattle.table_records.specs.Settings.{Read, flag_byte, flag_in, text_bytes, texts_bytes, counted_bytes, settings_bytes, with_text, first_size, is_cut, texts_in, counted_in, nothing_behind, last_in, with_types, types_behind, lists_in, settings_of, settings_in}
-use Rattle.table_records.proofs.Spelled.{spelled_again, front_byte}
+use Rattle.table_records.proofs.Spelled.{front_byte}
+use Rattle.groundwork.proofs.Bytes.{spelled_again}
 use Rattle.table_records.proofs.TextLists.{uncut}
 
 abbrev pub AreBytes : List ℕ → Type 0

@@ -14,7 +14,8 @@ use Rattle.byteorder.specs.Endian.{big_bytes, big_number}
 use Rattle.byteorder.specs.Numbers.{big_number-reads_back, length-bytes_high_first, big_from-lt, big_from-cons, big_from-take}
 use Rattle.byteorder.proofs.Bytes.{pow256}
 use Rattle.table_records.specs.Keys.{spelled_by, number_in, both, pair_in, number_key, pair_key}
-use Rattle.table_records.specs.Orders.{byte_at_is, low_bytes_cmp}
+use Rattle.groundwork.proofs.Bytes.{byte_at_is, low_bytes_cmp}
+use Rattle.groundwork.proofs.Bytes.{spelled_again}
 
 -- ---- from numbers to bytes
 
@@ -43,25 +44,6 @@ pair_key_spelled table n k x y fits too =
     ∙ (λ i. both (number_spelled n x fits i) (number_spelled k y too i))
 
 -- ---- from bytes to numbers
-
--- bytes that are read as a number are what spells it
-pub spelled_again : (n : ℕ) (b : List ℕ) → length b ≡ n → ((i : ℕ) → get_or b i 0 < 256) → big_bytes n (big_number n b) ≡ b
-spelled_again zero [] size bytes = refl
-spelled_again zero (x ∷ b) size bytes = absurd (omega (arith, size))
-spelled_again (suc k) [] size bytes = absurd (omega (arith, size))
-spelled_again (suc k) (x ∷ b) size bytes =
-    let rest : (i : ℕ) → get_or b i 0 < 256 = λ i. bytes (suc i) in
-    let tail : ℕ = big_number k b in
-    let low : big_number k b < 2 ^ (8 * k) = subst (λ (m : ℕ). big_number k b < m) (pow256 k) (big_from-lt 0 k b rest) in
-    let whole : big_number (suc k) (x ∷ b) ≡ x * 2 ^ (8 * k) + big_number k b = (λ i. x * pow256 k i + big_from-cons 0 k x b i) in
-    let top : byte_at k (x * 2 ^ (8 * k) + big_number k b) ≡ x =
-    byte_at_is k (x * 2 ^ (8 * k) + big_number k b) ∙ ap (λ (q : ℕ). q % 2 ^ 8) (shr_high x (8 * k) (big_number k b) low) ∙ mod-eq_of_lt {n = x} {m = 2 ^ 8} (bytes 0) in
-    let below : big_bytes k (x * 2 ^ (8 * k) + big_number k b) ≡ big_bytes k (big_number k b) =
-    exact_bytes (big_bytes k (x * 2 ^ (8 * k) + big_number k b)) (big_bytes k (big_number k b))
-    (low_bytes_cmp k (x * 2 ^ (8 * k) + big_number k b) (big_number k b)
-    ∙ (λ i. nat_cmp (mod_low x (8 * k) (big_number k b) low i) (mod-eq_of_lt {n = big_number k b} {m = 2 ^ (8 * k)} low i))
-    ∙ tied_itself nat_cmp_total (big_number k b)) in
-    ap (λ (m : ℕ). big_bytes (suc k) m) whole ∙ (λ i. top i ∷ below i) ∙ ap (λ (l : List ℕ). x ∷ l) (spelled_again k b (omega (arith, size)) rest)
 
 number_known : (n : ℕ) (b : List ℕ) → length b ≡ n → ((i : ℕ) → get_or b i 0 < 256) → number_in n b ≡ Some (big_number n b)
 number_known n b size bytes =

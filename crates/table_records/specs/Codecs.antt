@@ -1,5 +1,5 @@
 -- How a table is read out of a map from byte strings to byte strings.
-use Rattle.std.specs.Prelude.{◌≡◌, ◌<◌, ℕ, Bool, IsTrue, IsSome, List, [], ◌∷◌, Option, Some, None, get_or}
+use Rattle.std.specs.Prelude.{◌≡◌, ◌<◌, ◌&&◌, ℕ, Bool, IsTrue, IsSome, is_some, List, [], ◌∷◌, Option, Some, None, get_or}
 use Rattle.std.specs.declared.cmp.Ordering.{Ordering}
 use Rattle.std.specs.Cmp.{IsTotalOrder}
 use Rattle.byte_map.specs.Words.{Map, bytes_cmp}
@@ -32,6 +32,10 @@ module _ {K V : Type 0} (c : Codec K V) where
   pub record IsPairOf (key value : List ℕ) : Type 0 where
     pub spells : IsSome (c.read_key key)
     pub whole : IsTrue (c.is_value value)
+
+  -- and as a test
+  abbrev pub is_pair_of : List ℕ → List ℕ → Bool
+  is_pair_of key value = is_some (c.read_key key) && c.is_value value
 
   -- each key of a map that begins with the number of the table is a key of the table
   abbrev pub IsKeyed : Map → Type 0

@@ -10,23 +10,8 @@ use Rattle.std.proofs.lemmas.Map.Lookups.{exact_bytes}
 use Rattle.byte_map.specs.Words.{Map, bytes_cmp}
 use Rattle.byte_map.specs.Laws.{lower}
 use Rattle.table_records.specs.Codecs.{Codec, typed, with_key}
-
-pub both_hold : (a b : Bool) → T a → T b → T (a && b)
-both_hold true b p q = q
-both_hold false b p q = p
-
-pub first_holds : (a b : Bool) → T (a && b) → T a
-first_holds true b p = tt
-first_holds false b p = p
-
-pub second_holds : (a b : Bool) → T (a && b) → T b
-second_holds true b p = p
-second_holds false b p = absurd p
-
-pub is_less : (o : Ordering) → T (is_lt o) → o ≡ Less
-is_less Less p = refl
-is_less Equal p = absurd p
-is_less Greater p = absurd p
+use Rattle.groundwork.proofs.Bools.{both_true, first_true, second_true}
+use Rattle.groundwork.proofs.Orders.{is_less}
 
 some_and_none : {A : Type 0} (x : A) (o : Option A) → o ≡ Some x → o ≡ None → ⊥
 some_and_none x o p q = let clash : Some x ≡ None = sym p ∙ q in cc
@@ -56,8 +41,8 @@ module _ {K V : Type 0} (c : Codec K V) where
   put_front b k v is (e ∷ m) low =
       elim (c.read_key e.0) as (λ o. c.read_key e.0 ≡ o → put c.cmp k v (with_key c o e.1 (typed c m)) ≡ (k, v) ∷ with_key c o e.1 (typed c m)) [
         | Some j ↦ λ o. ap (λ (r : Ordering). by_order r ((k, v) ∷ (j, c.read_value e.1) ∷ typed c m) ((j, v) ∷ typed c m) ((j, c.read_value e.1) ∷ put c.cmp k v (typed c m)))
-            (sym (c.ordered b e.0 k j is o) ∙ is_less _ (first_holds _ _ low))
-        | None ↦ λ o. put_front b k v is m (second_holds _ _ low)
+            (sym (c.ordered b e.0 k j is o) ∙ is_less _ (first_true _ _ low))
+        | None ↦ λ o. put_front b k v is m (second_true _ _ low)
       ] refl
 
   -- a put of a key of the table is a put in the table
@@ -67,14 +52,14 @@ module _ {K V : Type 0} (c : Codec K V) where
       let v = c.read_value value in
       elim (bytes_cmp b e.0) as (λ r. bytes_cmp b e.0 ≡ r → typed c (by_order r ((b, value) ∷ e ∷ m) ((e.0, value) ∷ m) (e ∷ put bytes_cmp b value m)) ≡ put c.cmp k v (typed c (e ∷ m))) [
         | Less ↦ λ r. ap (λ (o : Option K). with_key c o value (typed c (e ∷ m))) is
-            ∙ sym (put_front b k v is (e ∷ m) (both_hold _ _ (subst (λ (q : Ordering). T (is_lt q)) (sym r) tt) (lower b e.0 m r (first_holds _ _ sorted))))
+            ∙ sym (put_front b k v is (e ∷ m) (both_true _ _ (subst (λ (q : Ordering). T (is_lt q)) (sym r) tt) (lower b e.0 m r (first_true _ _ sorted))))
         | Equal ↦ λ r.
             let here : c.read_key e.0 ≡ Some k = ap c.read_key (sym (exact_bytes b e.0 r)) ∙ is in
             ap (λ (o : Option K). with_key c o value (typed c m)) here
             ∙ sym (ap (λ (q : Ordering). by_order q ((k, v) ∷ (k, c.read_value e.1) ∷ typed c m) ((k, v) ∷ typed c m) ((k, c.read_value e.1) ∷ put c.cmp k v (typed c m)))
             (sym (c.ordered b e.0 k k is here) ∙ r))
             ∙ ap (λ (o : Option K). put c.cmp k v (with_key c o e.1 (typed c m))) (sym here)
-        | Greater ↦ λ r. ap (λ (es : List (K × V)). with_key c (c.read_key e.0) e.1 es) (put_typed b value k is m (second_holds _ _ sorted))
+        | Greater ↦ λ r. ap (λ (es : List (K × V)). with_key c (c.read_key e.0) e.1 es) (put_typed b value k is m (second_true _ _ sorted))
             ∙ elim (c.read_key e.0) as (λ o. c.read_key e.0 ≡ o → with_key c o e.1 (put c.cmp k v (typed c m)) ≡ put c.cmp k v (with_key c o e.1 (typed c m))) [
               | Some j ↦ λ o. sym (ap (λ (q : Ordering). by_order q ((k, v) ∷ (j, c.read_value e.1) ∷ typed c m) ((j, v) ∷ typed c m) ((j, c.read_value e.1) ∷ put c.cmp k v (typed c m)))
                   (sym (c.ordered b e.0 k j is o) ∙ r))

@@ -10,7 +10,9 @@ use Rattle.std.proofs.lemmas.Map.Lookups.{exact_bytes}
 use Rattle.std.specs.FinMap.Entries.{find, where_key, below_all, is_sorted, is_sorted-where_key}
 use Rattle.byte_map.specs.Words.{Map, bytes_cmp, first_of, next_in}
 use Rattle.table_records.specs.Codecs.{Codec, typed, with_key, IsKeyed}
-use Rattle.table_records.specs.Laws.{where_typed, is_less, first_holds, second_holds, both_hold}
+use Rattle.table_records.specs.Laws.{where_typed}
+use Rattle.groundwork.proofs.Orders.{is_less}
+use Rattle.groundwork.proofs.Bools.{first_true, second_true, both_true}
 
 -- bytes in order have their first bytes in order
 first_bytes : (a b : List ℕ) → bytes_cmp a b ≡ Less → get_or a 0 0 ≤ get_or b 0 0
@@ -62,8 +64,8 @@ module _ {K V : Type 0} (c : Codec K V) where
   none_above : (x : ℕ) (b : List ℕ) (m : Map) → get_or b 0 0 ≡ x → c.number < x → T (below_all bytes_cmp b m) → typed c m ≡ []
   none_above x b [] is above low = refl
   none_above x b (e ∷ m) is above low =
-      let less = first_bytes b e.0 (is_less (bytes_cmp b e.0) (first_holds _ _ low)) in
-      let rest = none_above x b m is above (second_holds (is_lt (bytes_cmp b e.0)) _ low) in
+      let less = first_bytes b e.0 (is_less (bytes_cmp b e.0) (first_true _ _ low)) in
+      let rest = none_above x b m is above (second_true (is_lt (bytes_cmp b e.0)) _ low) in
       elim (c.read_key e.0) as (λ o. c.read_key e.0 ≡ o → with_key c o e.1 (typed c m) ≡ []) [
         | None ↦ λ o. rest
         | Some k ↦ λ o. absurd (let number = c.numbered e.0 k o in omega (arith, number, less, is, above))
@@ -74,12 +76,12 @@ module _ {K V : Type 0} (c : Codec K V) where
       → first_of (typed c m) ≡ entry_of (first_of m)
   first_entry b [] is sorted low keyed = refl
   first_entry b (e ∷ m) is sorted low keyed =
-      let less = first_bytes b e.0 (is_less (bytes_cmp b e.0) (first_holds _ _ low)) in
+      let less = first_bytes b e.0 (is_less (bytes_cmp b e.0) (first_true _ _ low)) in
       elim (c.read_key e.0) as (λ o. c.read_key e.0 ≡ o → first_of (with_key c o e.1 (typed c m)) ≡ as_entry o e.1) [
         | Some k ↦ λ o. refl
         | None ↦ λ o.
             let other : get_or e.0 0 0 ≢ c.number = λ same. (let some = subst (λ (q : Option K). IsSome q) o (keyed.0 same) in false≢true some) in
-            ap (λ (es : List (K × V)). first_of es) (none_above (get_or e.0 0 0) e.0 m refl (omega (arith, less, is, other)) (first_holds _ _ sorted))
+            ap (λ (es : List (K × V)). first_of es) (none_above (get_or e.0 0 0) e.0 m refl (omega (arith, less, is, other)) (first_true _ _ sorted))
       ] refl
 
   all_above : (b : List ℕ) (m : Map) → T (below_all bytes_cmp b (where_key bytes_cmp (λ x. is_lt (bytes_cmp b x)) m))
@@ -87,7 +89,7 @@ module _ {K V : Type 0} (c : Codec K V) where
   all_above b (e ∷ m) =
       let above = where_key bytes_cmp (λ x. is_lt (bytes_cmp b x)) m in
       elim (is_lt (bytes_cmp b e.0)) as (λ t. is_lt (bytes_cmp b e.0) ≡ t → T (below_all bytes_cmp b (cond t (e ∷ above) above))) [
-        | true ↦ λ t. both_hold (is_lt (bytes_cmp b e.0)) (below_all bytes_cmp b above) (subst (λ (s : Bool). T s) (sym t) tt) (all_above b m)
+        | true ↦ λ t. both_true (is_lt (bytes_cmp b e.0)) (below_all bytes_cmp b above) (subst (λ (s : Bool). T s) (sym t) tt) (all_above b m)
         | false ↦ λ t. all_above b m
       ] refl
 
@@ -143,18 +145,18 @@ module _ {K V : Type 0} (c : Codec K V) where
   below_typed : (b : List ℕ) (k : K) → c.read_key b ≡ Some k → (m : Map) → T (below_all bytes_cmp b m) → T (below_all c.cmp k (typed c m))
   below_typed b k is [] low = tt
   below_typed b k is (e ∷ m) low =
-      let rest = below_typed b k is m (second_holds (is_lt (bytes_cmp b e.0)) _ low) in
+      let rest = below_typed b k is m (second_true (is_lt (bytes_cmp b e.0)) _ low) in
       elim (c.read_key e.0) as (λ o. c.read_key e.0 ≡ o → T (below_all c.cmp k (with_key c o e.1 (typed c m)))) [
         | None ↦ λ o. rest
-        | Some j ↦ λ o. both_hold (is_lt (c.cmp k j)) (below_all c.cmp k (typed c m)) (subst (λ (r : Ordering). T (is_lt r)) (c.ordered b e.0 k j is o) (first_holds _ _ low)) rest
+        | Some j ↦ λ o. both_true (is_lt (c.cmp k j)) (below_all c.cmp k (typed c m)) (subst (λ (r : Ordering). T (is_lt r)) (c.ordered b e.0 k j is o) (first_true _ _ low)) rest
       ] refl
 
   -- a table is in the order of its keys
   pub sorted_typed : (m : Map) → T (is_sorted bytes_cmp m) → T (is_sorted c.cmp (typed c m))
   sorted_typed [] sorted = tt
   sorted_typed (e ∷ m) sorted =
-      let rest = sorted_typed m (second_holds (below_all bytes_cmp e.0 m) _ sorted) in
+      let rest = sorted_typed m (second_true (below_all bytes_cmp e.0 m) _ sorted) in
       elim (c.read_key e.0) as (λ o. c.read_key e.0 ≡ o → T (is_sorted c.cmp (with_key c o e.1 (typed c m)))) [
         | None ↦ λ o. rest
-        | Some k ↦ λ o. both_hold (below_all c.cmp k (typed c m)) (is_sorted c.cmp (typed c m)) (below_typed e.0 k o m (first_holds _ _ sorted)) rest
+        | Some k ↦ λ o. both_true (below_all c.cmp k (typed c m)) (is_sorted c.cmp (typed c m)) (below_typed e.0 k o m (first_true _ _ sorted)) rest
       ] refl

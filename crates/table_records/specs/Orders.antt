@@ -1,5 +1,5 @@
 -- Keys compare as the bytes that spell them.
-use Rattle.std.specs.Prelude.{◌≡◌, ◌&&◌, ◌^◌, ◌+◌, ◌*◌, ◌/◌, ◌%◌, ◌<◌, ℕ, zero, suc, Bool, true, false, List, [], ◌∷◌, ◌++◌, length, get_or, Option, Some, None, nat_eq, nat_lt, take, drop, if◌then◌else◌, refl}
+use Rattle.std.specs.Prelude.{◌≡◌, ◌&&◌, ◌^◌, ◌+◌, ◌*◌, ◌/◌, ◌%◌, ◌<◌, ℕ, zero, suc, Bool, true, false, List, [], ◌∷◌, ◌++◌, length, get_or, Option, Some, None, is_some, nat_eq, nat_lt, take, drop, if◌then◌else◌, refl}
 use Rattle.std.proofs.Common.{sym, ◌∙◌, ap, subst, arith, rules, ltb-true, eqb-true}
 use Rattle.std.specs.declared.cmp.Ordering.{Ordering}
 use Rattle.std.specs.declared.cmp.Ordering.TheVariants.{Less, Equal, Greater}
@@ -20,42 +20,12 @@ use Rattle.byte_map.specs.Words.{bytes_cmp}
 use Rattle.table_records.specs.declared.jobs.JobKind.{JobKind}
 use Rattle.table_records.specs.declared.jobs.JobKind.TheVariants.{Optimization, GarbageCollection, Scrubbing, Unoptimization}
 use Rattle.table_records.specs.Keys.{spelled_by, number_in, both, pair_in, nothing_in, all_in, kind_number, kind_of, kind_in, behind, single_cmp, pair_cmp, kind_cmp}
+use Rattle.groundwork.proofs.Bytes.{low_bytes_cmp}
 
 pub some_same : {A : Type 0} (x y : A) → Some x ≡ Some y → x ≡ y
 some_same {A} x y e = ap (λ (o : Option A). unwrap_or o x) e
 
 -- ---- numbers
-
-columns : (a b c d w : ℕ) → a ≡ b → (r : Ordering) → MatchOrdering r (c < d) (c ≡ d) (d < c)
-    → MatchOrdering r (a * w + c < b * w + d) (a * w + c ≡ b * w + d) (b * w + d < a * w + c)
-columns a b c d w same Less h = let rows = ap (λ (k : ℕ). k * w) same in omega (arith, rows, h)
-columns a b c d w same Equal h = let rows = ap (λ (k : ℕ). k * w) same in omega (arith, rows, h)
-columns a b c d w same Greater h = let rows = ap (λ (k : ℕ). k * w) same in omega (arith, rows, h)
-
--- rows of one width compare first by the row, then by the column
-rows_cmp : (a b c d w : ℕ) → c < w → d < w → ordering_then (nat_cmp a b) (nat_cmp c d) ≡ nat_cmp (a * w + c) (b * w + d)
-rows_cmp a b c d w low high = by (nat_cmp a b) (ranks a b)
-  where
-    by : (r : Ordering) → MatchOrdering r (a < b) (a ≡ b) (b < a) → ordering_then r (nat_cmp c d) ≡ nat_cmp (a * w + c) (b * w + d)
-    by Less h = nat_cmp_is (a * w + c) (b * w + d) Less (omega (arith, low, high, row_fits a w b w h (omega arith)))
-    by Equal h = nat_cmp_is (a * w + c) (b * w + d) (nat_cmp c d) (columns a b c d w h (nat_cmp c d) (ranks c d))
-    by Greater h = nat_cmp_is (a * w + c) (b * w + d) Greater (omega (arith, low, high, row_fits b w a w h (omega arith)))
-
-pub byte_at_is : (k x : ℕ) → byte_at k x ≡ x / 2 ^ (8 * k) % 2 ^ 8
-byte_at_is zero x = ap (λ (n : ℕ). n % 256) (sym (div-one x))
-byte_at_is (suc k) x = ap (λ (n : ℕ). x / n % 256) (pow256 (suc k))
-
--- the lowest n bytes of two numbers compare as what they spell
-pub low_bytes_cmp : (n x y : ℕ) → bytes_cmp (big_bytes n x) (big_bytes n y) ≡ nat_cmp (x % 2 ^ (8 * n)) (y % 2 ^ (8 * n))
-low_bytes_cmp zero x y = nat_cmp_is (x % 1) (y % 1) Equal (omega arith)
-low_bytes_cmp (suc k) x y =
-    let whole : 8 + 8 * k ≡ 8 * suc k = omega arith in
-    let split : (n : ℕ) → n % 2 ^ (8 * suc k) ≡ (n / 2 ^ (8 * k) % 2 ^ 8) * 2 ^ (8 * k) + n % 2 ^ (8 * k) =
-    λ n. ap (λ (e : ℕ). n % 2 ^ e) (sym whole) ∙ mod-pow-add n 8 (8 * k) in
-    (λ i. ordering_then (nat_cmp (byte_at_is k x i) (byte_at_is k y i)) (low_bytes_cmp k x y i))
-    ∙ rows_cmp (x / 2 ^ (8 * k) % 2 ^ 8) (y / 2 ^ (8 * k) % 2 ^ 8) (x % 2 ^ (8 * k)) (y % 2 ^ (8 * k)) (2 ^ (8 * k))
-    (mod-lt x (pow_pos (8 * k))) (mod-lt y (pow_pos (8 * k)))
-    ∙ (λ i. nat_cmp (sym (split x) i) (sym (split y) i))
 
 number_bytes_cmp : (n x y : ℕ) → x < 256 ^ n → y < 256 ^ n → bytes_cmp (big_bytes n x) (big_bytes n y) ≡ nat_cmp x y
 number_bytes_cmp n x y fits too =
@@ -190,3 +160,13 @@ module _ {K : Type 0} (number : ℕ) (read : List ℕ → Option K) where
       (λ i. bytes_cmp (p.1 i) (q.1 i))
       ∙ ap (λ (o : Ordering). ordering_then o (bytes_cmp p.0 q.0)) (tied_itself nat_cmp_total number)
       ∙ ordered p.0 q.0 j k p.2 q.2
+
+-- bytes that are a key, as a test, begin with the number
+pub key_numbered : {K : Type 0} (number : ℕ) (read : List ℕ → Option K)
+    → ((b : List ℕ) (k : K) → read b ≡ Some k → get_or b 0 0 ≡ number)
+    → (b : List ℕ) → is_some (read b) ≡ true → get_or b 0 0 ≡ number
+key_numbered {K} number read numbered b is = by (read b) refl is
+  where
+    by : (o : Option K) → read b ≡ o → is_some o ≡ true → get_or b 0 0 ≡ number
+    by None e some = absurd (cc)
+    by (Some k) e some = numbered b k e

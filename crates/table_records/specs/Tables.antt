@@ -1,6 +1,6 @@
 -- The tables. A further table is a row here, a row of what is well formed, and its code.
-use Rattle.std.specs.Prelude.{◌<◌, ◌+◌, ℕ, List}
-use Rattle.std.proofs.Common.{arith}
+use Rattle.std.specs.Prelude.{◌≡◌, ◌<◌, ◌+◌, ℕ, nat_lt, true, List}
+use Rattle.std.proofs.Common.{arith, ltb-true}
 use Rattle.std.specs.Ordering.{nat_cmp}
 use Rattle.std.specs.Cmp.{nat_cmp_total}
 use Rattle.std.specs.Cmp.Lexicographic.{nat_list_cmp_total}
@@ -19,6 +19,10 @@ use Rattle.table_records.specs.Values.{has_length, volume_in, id_in, file_in, ex
 
 pub some_positive : (n : ℕ) → 0 < n + 1
 some_positive n = omega arith
+
+-- there is a number above that of a table
+pub is_followed : (n : ℕ) → nat_lt n 255 ≡ true → n < 255
+is_followed n is = ltb-true n 255 is
 
 abbrev pub volume_codec : Codec (Unit {0}) VolumeRecord
 volume_codec = record {

@@ -5,7 +5,6 @@ mod jobs;
 pub mod laws;
 mod limits;
 mod lists;
-mod memory;
 mod names;
 mod numbers;
 mod records;
@@ -15,15 +14,15 @@ mod tables;
 mod texts;
 mod well_formed;
 
+pub use groundwork::Memory;
 pub use jobs::{JobKind, JobResult};
 pub use limits::{
     MOST_KEY_BYTES, MOST_LIST_BYTES, MOST_NAME_BYTES, MOST_NAME_KEY_BYTES, MOST_VALUE_BYTES,
 };
-pub use memory::Memory;
-pub use names::Names;
+pub use names::NameTable;
 pub use records::{Extent, FileRecord, ResultRecord, VolumeRecord};
 pub use settings::{SETTINGS_KEY, Settings};
 pub use table::Table;
-pub use tables::{Extents, Files, Results, Volume};
+pub use tables::{ExtentTable, FileTable, ResultTable, VolumeTable};
 pub use texts::{Texts, TextsFault};
 pub use well_formed::{is_pair_of, is_well_formed};

@@ -8,9 +8,12 @@ use byteorder::{BigEndian, ByteOrder};
 
 /// The names, table 2: a key is a name, a value the id of its file. Keys are borrowed bytes, so it is no
 /// [`Table`](crate::Table), but has calls like those.
-pub struct Names;
+pub struct NameTable;
 
-impl Names {
+impl NameTable {
+    /// The number of the table, with which each of its keys begins.
+    pub const NUMBER: u8 = 2;
+
     /// Spells the key of a name at the front of `out`, and answers how many bytes it has. A name has at most
     /// [`MOST_NAME_BYTES`](crate::MOST_NAME_BYTES), and `out` needs
     /// [`MOST_NAME_KEY_BYTES`](crate::MOST_NAME_KEY_BYTES).
@@ -28,7 +31,7 @@ impl Names {
     pub fn read_key(bytes: &[u8]) -> Option<&[u8]>
         ensures { option_map (λ name. name.now) result ≡ name_codec.read_key bytes.now }
     {
-        if bytes.len() > 0 && bytes[0] == 2 {
+        if bytes.len() > 0 && bytes[0] == Self::NUMBER {
             Some(&bytes[1..])
         } else {
             None
@@ -66,6 +69,6 @@ fn put_name(out: &mut [u8], name: &[u8])
     requires short { length name.now ≤ 255 }
     ensures { out.new ≡ (2 ∷ name.now) ++ drop (length name.now + 1) out.old }
 {
-    out[0] = 2;
+    out[0] = NameTable::NUMBER;
     out[1..name.len() + 1].copy_from_slice(name);
 }

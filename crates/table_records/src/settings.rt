@@ -11,7 +11,7 @@ use byteorder::{BigEndian, ByteOrder};
 use std::alloc::Global;
 
 /// The key of the settings, table 9: it is the only one.
-pub const SETTINGS_KEY: [u8; 1] = [9];
+pub const SETTINGS_KEY: [u8; 1] = [Settings::NUMBER];
 
 /// What is deduplicated, and how.
 #[derive(Drop)]
@@ -39,11 +39,14 @@ type Lists = (Texts, Texts);
 const HEAD_BYTES: usize = 14;
 
 impl Settings {
+    /// The number of the table of settings, with which its key begins.
+    pub const NUMBER: u8 = 9;
+
     /// Whether bytes are the key of the settings.
     pub fn is_key(bytes: &[u8]) -> bool
         ensures { result ≡ is_some (settings_codec.read_key bytes.now) }
     {
-        bytes.len() == 1 && bytes[0] == 9
+        bytes.len() == 1 && bytes[0] == Self::NUMBER
     }
 
     /// Whether bytes spell settings: each flag is 0 or 1, each list takes at most

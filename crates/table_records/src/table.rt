@@ -1,6 +1,6 @@
 //! How the keys and values of a table are spelled.
 
-ghost use Rattle.std.specs.Prelude.{◌≡◌, ◌≤◌, IsTrue, length, take, Some};
+ghost use Rattle.std.specs.Prelude.{◌≡◌, ◌≤◌, ◌<◌, ℕ, IsTrue, length, take, Some};
 ghost use Rattle.table_records.specs.Codecs.{Codec};
 
 /// A table whose keys and values have few bytes: a key at most 32, a value at most 64. All numbers are big-endian,
@@ -11,6 +11,11 @@ pub trait Table {
     type Value: Copy;
 
     ghost codec: { Codec Self.Key Self.Value };
+
+    ghost NUMBER: { ℕ };
+
+    /// The number of the table, with which each of its keys begins.
+    const NUMBER: u8;
 
     /// Spells a key at the front of `out`, and answers how many bytes it has. `out` needs
     /// [`MOST_KEY_BYTES`](crate::MOST_KEY_BYTES).
@@ -38,4 +43,9 @@ pub trait Table {
     /// Whether bytes are a value of this table.
     fn is_value(bytes: &[u8]) -> bool
         ensures { result ≡ codec.is_value bytes.now };
+
+    ghost numbered: { codec.number ≡ NUMBER };
+
+    // A number stands above those of all tables: alone it ends the keys of the last one.
+    ghost followed: { NUMBER < 255 };
 }

@@ -1,8 +1,8 @@
 //! The tables whose keys and values have few bytes.
 
-ghost use Rattle.std.specs.Prelude.{◌≡◌, ◌≤◌, length, take};
+ghost use Rattle.std.specs.Prelude.{◌≡◌, ◌≤◌, length, take, refl};
 ghost use Rattle.table_records.specs.Values.{result_in};
-ghost use Rattle.table_records.specs.Tables.{volume_codec, file_codec, extent_codec, result_codec};
+ghost use Rattle.table_records.specs.Tables.{volume_codec, file_codec, extent_codec, result_codec, is_followed};
 
 use crate::jobs::JobKind;
 use crate::numbers::{number_of, pair_of, put_number, put_pair, u8_at, u16_at, u32_at, u64_at};
@@ -11,22 +11,26 @@ use crate::table::Table;
 use byteorder::{BigEndian, ByteOrder};
 
 /// The volume's own record, table 1: it has one key.
-pub struct Volume;
+pub struct VolumeTable;
 
-impl Table for Volume {
+impl Table for VolumeTable {
     type Key = ();
 
     type Value = VolumeRecord;
 
     ghost codec = { volume_codec };
 
+    ghost NUMBER = { 1 };
+
+    const NUMBER: u8 = 1;
+
     fn write_key(_key: (), out: &mut [u8]) -> usize {
-        out[0] = 1;
+        out[0] = Self::NUMBER;
         1
     }
 
     fn read_key(bytes: &[u8]) -> Option<()> {
-        if bytes.len() == 1 && bytes[0] == 1 {
+        if bytes.len() == 1 && bytes[0] == Self::NUMBER {
             Some(())
         } else {
             None
@@ -49,25 +53,33 @@ impl Table for Volume {
     fn is_value(bytes: &[u8]) -> bool {
         bytes.len() == 12
     }
+
+    ghost numbered = { refl };
+
+    ghost followed = { is_followed 1 refl };
 }
 
 /// The files by their ids, table 3.
-pub struct Files;
+pub struct FileTable;
 
-impl Table for Files {
+impl Table for FileTable {
     type Key = u64;
 
     type Value = FileRecord;
 
     ghost codec = { file_codec };
 
+    ghost NUMBER = { 3 };
+
+    const NUMBER: u8 = 3;
+
     fn write_key(key: u64, out: &mut [u8]) -> usize {
-        put_number(out, 3, key);
+        put_number(out, Self::NUMBER, key);
         9
     }
 
     fn read_key(bytes: &[u8]) -> Option<u64> {
-        number_of(bytes, 3)
+        number_of(bytes, Self::NUMBER)
     }
 
     fn write_value(value: FileRecord, out: &mut [u8]) -> usize {
@@ -88,25 +100,33 @@ impl Table for Files {
     fn is_value(bytes: &[u8]) -> bool {
         bytes.len() == 24
     }
+
+    ghost numbered = { refl };
+
+    ghost followed = { is_followed 3 refl };
 }
 
 /// The extents of files, table 4. A key is the id of a file and the number of a block of it, counted from 0.
-pub struct Extents;
+pub struct ExtentTable;
 
-impl Table for Extents {
+impl Table for ExtentTable {
     type Key = (u64, u32);
 
     type Value = Extent;
 
     ghost codec = { extent_codec };
 
+    ghost NUMBER = { 4 };
+
+    const NUMBER: u8 = 4;
+
     fn write_key(key: (u64, u32), out: &mut [u8]) -> usize {
-        put_pair(out, 4, key.0, key.1);
+        put_pair(out, Self::NUMBER, key.0, key.1);
         13
     }
 
     fn read_key(bytes: &[u8]) -> Option<(u64, u32)> {
-        pair_of(bytes, 4)
+        pair_of(bytes, Self::NUMBER)
     }
 
     fn write_value(value: Extent, out: &mut [u8]) -> usize {
@@ -125,6 +145,10 @@ impl Table for Extents {
     fn is_value(bytes: &[u8]) -> bool {
         bytes.len() == 6
     }
+
+    ghost numbered = { refl };
+
+    ghost followed = { is_followed 4 refl };
 }
 
 fn put_result(out: &mut [u8], second: u64, number: u8)
@@ -136,23 +160,27 @@ fn put_result(out: &mut [u8], second: u64, number: u8)
 }
 
 /// The results of jobs by their kinds, table 10.
-pub struct Results;
+pub struct ResultTable;
 
-impl Table for Results {
+impl Table for ResultTable {
     type Key = JobKind;
 
     type Value = ResultRecord;
 
     ghost codec = { result_codec };
 
+    ghost NUMBER = { 10 };
+
+    const NUMBER: u8 = 10;
+
     fn write_key(key: JobKind, out: &mut [u8]) -> usize {
-        out[0] = 10;
+        out[0] = Self::NUMBER;
         out[1] = key.number();
         2
     }
 
     fn read_key(bytes: &[u8]) -> Option<JobKind> {
-        if bytes.len() == 2 && bytes[0] == 10 {
+        if bytes.len() == 2 && bytes[0] == Self::NUMBER {
             JobKind::of_number(bytes[1])
         } else {
             None
@@ -174,4 +202,8 @@ impl Table for Results {
     fn is_value(bytes: &[u8]) -> bool {
         bytes.len() == 9
     }
+
+    ghost numbered = { refl };
+
+    ghost followed = { is_followed 10 refl };
 }

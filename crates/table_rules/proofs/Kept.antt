@@ -13,7 +13,7 @@ use Rattle.table_records.specs.Settings.{settings_in, settings_or_none, no_setti
 use Rattle.table_records.specs.Tables.{settings_codec}
 use Rattle.table_records.specs.WellFormed.{IsWellFormed, AllWellFormed}
 use Rattle.table_records.specs.declared.settings.Settings.{Settings}
-use Rattle.table_records.proofs.Belongs.{settings_belongs}
+use Rattle.table_records.proofs.Belongs.{belongs, settings_are_table}
 use Rattle.volume_inside.specs.Entries.{each_found}
 use Rattle.table_rules.proofs.Eaches.{pairs_of_spelled}
 
@@ -25,7 +25,7 @@ pub stored_there : (m : Map) (value : List ℕ) → AllWellFormed m → find byt
     → settings_in value ≡ find single_cmp tt (typed settings_codec m)
 stored_there m value spelled there =
     let pair : IsPairOf settings_codec (9 ∷ []) value =
-    settings_belongs (9 ∷ []) value (each_found bytes_cmp exact_bytes IsWellFormed (9 ∷ []) value m there (pairs_of_spelled m spelled)) refl in
+    belongs settings_codec settings_are_table (9 ∷ []) value (each_found bytes_cmp exact_bytes IsWellFormed (9 ∷ []) value m there (pairs_of_spelled m spelled)) refl in
     some_again (settings_in value) pair.whole
     ∙ ap (λ (o : Option (List ℕ)). option_map settings_or_none o) (sym there)
     ∙ sym (find_typed settings_codec (9 ∷ []) tt refl m)

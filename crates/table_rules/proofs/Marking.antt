@@ -10,11 +10,10 @@ use Rattle.cluster_space.specs.States.{IsIn}
 use Rattle.table_records.specs.Codecs.{typed, with_key}
 use Rattle.table_records.specs.Tables.{extent_codec}
 use Rattle.table_records.specs.declared.records.Extent.{Extent}
-use Rattle.volume_inside.specs.Entries.{Each}
 use Rattle.volume_inside.specs.Layout.{first_data_cluster, data_clusters, AreData}
 use Rattle.volume_inside.specs.Lists.{IsOut, IsOnce}
 use Rattle.volume_inside.specs.Named.{extent_clusters, clusters_of}
-use Rattle.volume_inside.specs.Rules.{ExtentHolds, ExtentsHold}
+use Rattle.volume_inside.specs.Rules.{ExtentsHold}
 use Rattle.volume_inside.specs.Typed.{Typed, FileBlock}
 use Rattle.table_rules.specs.Marks.{cluster_when, cluster_in_pair, marked, CanMark, AllUsed, IsFilled}
 
@@ -179,10 +178,10 @@ fresh_filled n cs s are can is =
 
 -- ---- the clusters that tables name
 
-pub data_named : (n : ℕ) (t : Typed) → ExtentsHold n t → AreData n (extent_clusters t.extents)
+pub data_named : (n : ℕ) (t : Typed) → ExtentsHold n t.files t.extents → AreData n (extent_clusters t.extents)
 data_named n t hold = each t.extents hold
   where
-    each : (es : List (FileBlock × Extent)) → Each (ExtentHolds n t) es → AreData n (extent_clusters es)
+    each : (es : List (FileBlock × Extent)) → ExtentsHold n t.files es → AreData n (extent_clusters es)
     each [] hold = tt
     each (e ∷ es) hold = (hold.0.in_data, each es hold.1)
 

@@ -13,7 +13,7 @@ use Rattle.table_rules.specs.declared.fault.TableFault.TheVariants.{Broken, Memo
 
 -- the first rule is broken, or memory was wanting
 abbrev pub BreaksRecords : Map → TableFault → Type 0
-BreaksRecords m (Broken rule) = (rule ≡ 1) × (AllWellFormed m × RecordsHold (typed_of m) → ⊥)
+BreaksRecords m (Broken rule) = (rule ≡ 1) × (AllWellFormed m × (let t = typed_of m in RecordsHold t.volume t.settings t.results) → ⊥)
 BreaksRecords m Memory = Unit {0}
 
 -- THE CAUSE: of the rules in their order this is the first one that is broken; or memory was wanting

@@ -31,7 +31,7 @@ pub struct Checked {
 /// The first rule: each pair is a key and a value of a table, and the records that each volume has are there.
 fn check_records(alloc: Global, map: &ByteMap) -> Result<Records, TableFault>
     ensures spelled { OnOk result (AllWellFormed map.now) }
-    ensures hold { OnOk result (RecordsHold (typed_of map.now)) }
+    ensures hold { let t = typed_of map.now in OnOk result (RecordsHold t.volume t.settings t.results) }
     ensures records { IfOk result (AreRecordsOf (typed_of map.now)) }
     ensures next_id { IfOk result (λ records. next_id_of (typed_of map.now) ≡ records.next_id) }
     ensures broken { IfErr result (BreaksRecords map.now) }

@@ -12,7 +12,7 @@ ghost use Rattle.table_rules.specs.Marks.{cluster_in_pair, CanMark, marked, IsFi
 use byte_map::ByteMap;
 use cluster_space::{Memory, Space, State};
 use std::alloc::Global;
-use table_records::{Extents, Table};
+use table_records::{ExtentTable, Table};
 use volume_inside::{data_clusters, first_data_cluster};
 
 /// Makes the data cluster of this place used, and answers whether it was free.
@@ -38,9 +38,9 @@ fn mark_pair(space: &mut Space, clusters: u32, key: &[u8], value: &[u8]) -> bool
     ensures marked { IsTrue result → space.new
         ≡ marked (first_of clusters) (cluster_in_pair key.now value.now) space.old }
 {
-    match Extents::read_key(key) {
+    match ExtentTable::read_key(key) {
         Some(_) => {
-            let extent = Extents::read_value(value);
+            let extent = ExtentTable::read_value(value);
             mark(space, extent.cluster - first_data_cluster(clusters))
         }
         None => true,
@@ -72,7 +72,7 @@ pub(crate) fn mark_clusters(
     clusters: u32,
 ) -> Result<Option<Space>, Memory>
     requires least { 4096 ≤ clusters }
-    requires hold { ExtentsHold clusters (typed_of map.now) }
+    requires hold { let t = typed_of map.now in ExtentsHold clusters t.files t.extents }
     ensures filled { IfOk result (λ found. IfSome found (IsFilled clusters (clusters_of (typed_of map.now)))) }
     ensures once { IfOk result (λ found. IfSome found (λ space. ClustersHold (typed_of map.now))) }
     ensures twice { IfOk result (λ found. IfNone found (ClustersHold (typed_of map.now) → ⊥)) }

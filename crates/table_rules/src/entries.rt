@@ -13,7 +13,7 @@ use crate::lookup::get;
 use crate::pairs::{PairRule, each};
 use byte_map::ByteMap;
 use plain_volume::name_is_lawful;
-use table_records::{Extents, Files, Names, Table};
+use table_records::{ExtentTable, FileTable, NameTable, Table};
 use volume_inside::{extent_holds, file_holds};
 
 /// A name is lawful, and its file is there.
@@ -23,43 +23,41 @@ struct NameRule<'a> {
 }
 
 impl<'a> PairRule for NameRule<'a> {
-    ghost meets = { λ rule. PairMeets name_codec (NameHolds (typed_of rule.map.now)) };
+    ghost meets = { λ rule. PairMeets name_codec (NameHolds (typed_of rule.map.now).files) };
 
     fn holds(&self, key: &[u8], value: &[u8]) -> bool {
-        match Names::read_key(key) {
-            Some(name) => names_file(self.map, name, Names::read_value(value)),
+        match NameTable::read_key(key) {
+            Some(name) => names_file(self.map, name, NameTable::read_value(value)),
             None => true,
         }
     }
 }
 
 fn names_file(map: &ByteMap, name: &[u8], id: u64) -> bool
-    ensures { IsTrue result ↔ NameHolds (typed_of map.now) name.now id }
+    ensures { IsTrue result ↔ NameHolds (typed_of map.now).files name.now id }
 {
-    name_is_lawful(name) && get::<Files>(map, id).is_some()
+    name_is_lawful(name) && get::<FileTable>(map, id).is_some()
 }
 
 /// Whether each name is lawful and its file is there.
 pub(crate) fn names_are_lawful(map: &ByteMap) -> bool
-    ensures { IsTrue result ↔ Each (NameHolds (typed_of map.now)) (typed_of map.now).names }
+    ensures { let t = typed_of map.now in IsTrue result ↔ Each (NameHolds t.files) t.names }
 {
     each(map, &NameRule { map })
 }
 
 /// A file meets the rule of files, where this id is drawn next.
 #[derive(Drop)]
-struct FileRule<'a> {
-    map: &'a ByteMap,
+struct FileRule {
     next_id: u64,
-    ghost drawn: { next_id_of (typed_of map.now) ≡ next_id },
 }
 
-impl<'a> PairRule for FileRule<'a> {
-    ghost meets = { λ rule. PairMeets file_codec (FileHolds (typed_of rule.map.now)) };
+impl PairRule for FileRule {
+    ghost meets = { λ rule. PairMeets file_codec (FileHolds rule.next_id) };
 
     fn holds(&self, key: &[u8], value: &[u8]) -> bool {
-        match Files::read_key(key) {
-            Some(id) => file_holds(self.next_id, id, Files::read_value(value)),
+        match FileTable::read_key(key) {
+            Some(id) => file_holds(self.next_id, id, FileTable::read_value(value)),
             None => true,
         }
     }
@@ -68,9 +66,9 @@ impl<'a> PairRule for FileRule<'a> {
 /// Whether the files meet their rule, in tables that draw `next_id` next.
 pub(crate) fn files_hold(map: &ByteMap, next_id: u64) -> bool
     requires { next_id_of (typed_of map.now) ≡ next_id }
-    ensures { IsTrue result ↔ FilesHold (typed_of map.now) }
+    ensures { let t = typed_of map.now in IsTrue result ↔ FilesHold (next_id_of t) t.files }
 {
-    each(map, &FileRule { map, next_id })
+    each(map, &FileRule { next_id })
 }
 
 /// An extent meets the rule of extents, in an image of so many clusters.
@@ -81,13 +79,13 @@ struct ExtentRule<'a> {
 }
 
 impl<'a> PairRule for ExtentRule<'a> {
-    ghost meets = { λ rule. PairMeets extent_codec (ExtentHolds rule.clusters (typed_of rule.map.now)) };
+    ghost meets = { λ rule. PairMeets extent_codec (ExtentHolds rule.clusters (typed_of rule.map.now).files) };
 
     fn holds(&self, key: &[u8], value: &[u8]) -> bool {
-        match Extents::read_key(key) {
+        match ExtentTable::read_key(key) {
             Some(key) => {
-                let file = get::<Files>(self.map, key.0);
-                extent_holds(self.clusters, file, key, Extents::read_value(value))
+                let file = get::<FileTable>(self.map, key.0);
+                extent_holds(self.clusters, file, key, ExtentTable::read_value(value))
             }
             None => true,
         }
@@ -96,7 +94,7 @@ impl<'a> PairRule for ExtentRule<'a> {
 
 /// Whether the extents meet their rule, in an image of so many clusters.
 pub(crate) fn extents_hold(map: &ByteMap, clusters: u32) -> bool
-    ensures { IsTrue result ↔ ExtentsHold clusters (typed_of map.now) }
+    ensures { let t = typed_of map.now in IsTrue result ↔ ExtentsHold clusters t.files t.extents }
 {
     each(map, &ExtentRule { map, clusters })
 }

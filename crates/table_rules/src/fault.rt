@@ -24,14 +24,3 @@ impl From<Memory> for TableFault {
         TableFault::Memory
     }
 }
-
-impl From<cluster_space::Memory> for TableFault {
-    ghost use Rattle.std.specs.Prelude.{◌≡◌};
-    ghost use Rattle.table_rules.specs.declared.fault.TableFault.TheVariants.{Memory as out_of_memory};
-
-    ghost from_gives = { λ _ e. e ≡ out_of_memory };
-
-    fn from(_memory: cluster_space::Memory) -> TableFault {
-        TableFault::Memory
-    }
-}

@@ -15,14 +15,14 @@ use crate::pairs::{PairRule, each};
 use byte_map::ByteMap;
 use plain_volume::limits::MOST_FILES;
 use std::alloc::Global;
-use table_records::{Files, Memory, Names, Table};
+use table_records::{FileTable, Memory, NameTable, Table};
 
 /// Adds the id that a pair names, if it is a name.
 fn push_id(ids: &mut Vec<u64>, key: &[u8], value: &[u8]) -> Result<(), Memory>
     ensures { OnOk result (ids.new.items ≡ ids.old.items ++ id_in_pair key.now value.now) }
 {
-    if let Some(_) = Names::read_key(key) {
-        ids.push(Names::read_value(value))?;
+    if let Some(_) = NameTable::read_key(key) {
+        ids.push(NameTable::read_value(value))?;
     }
     Ok(())
 }
@@ -100,7 +100,7 @@ impl<'a> PairRule for OnceRule<'a> {
     ghost meets = { λ rule. PairMeets file_codec (IsOnceIn rule.ids.now) };
 
     fn holds(&self, key: &[u8], _value: &[u8]) -> bool {
-        match Files::read_key(key) {
+        match FileTable::read_key(key) {
             Some(id) => stands_once(self.ids, id),
             None => true,
         }
@@ -111,7 +111,7 @@ impl<'a> PairRule for OnceRule<'a> {
 fn files_are_named_once(map: &ByteMap, ids: &[u64]) -> bool
     requires sorted { IsNonDecreasing ids.now }
     requires same { IsPermutation (ids_of (typed_of map.now).names) ids.now }
-    ensures { IsTrue result ↔ Each (IsNamedOnce (typed_of map.now)) (typed_of map.now).files }
+    ensures { let t = typed_of map.now in IsTrue result ↔ Each (IsNamedOnce t.names) t.files }
 {
     each(map, &OnceRule { ids })
 }
@@ -119,7 +119,7 @@ fn files_are_named_once(map: &ByteMap, ids: &[u64]) -> bool
 /// Whether names meet their rule: each is lawful and names a file, each file has exactly one, and they are not too
 /// many.
 pub(crate) fn names_hold(alloc: Global, map: &ByteMap) -> Result<bool, Memory>
-    ensures { IfOk result (λ holds. IsTrue holds ↔ NamesHold (typed_of map.now)) }
+    ensures { let t = typed_of map.now in IfOk result (λ holds. IsTrue holds ↔ NamesHold t.names t.files) }
 {
     let ids = sorted_ids(alloc, map)?;
     let few = ids.len() as u64 <= MOST_FILES;

@@ -14,7 +14,9 @@ ghost use Rattle.table_records.specs.declared.jobs.JobKind.{JobKind};
 use crate::lookup::get;
 use byte_map::ByteMap;
 use std::alloc::Global;
-use table_records::{JobKind, Memory, ResultRecord, Results, Settings, Volume};
+use table_records::{
+    JobKind, Memory, ResultRecord, ResultTable, SETTINGS_KEY, Settings, VolumeTable,
+};
 use volume_inside::{result_holds, settings_hold, volume_record_holds};
 
 /// How the last job of each kind ended.
@@ -42,7 +44,7 @@ fn find_next_id(map: &ByteMap) -> Option<u64>
     ensures lawful { IfSome result (λ next_id. IsVolumeRecord (volume_record next_id)) }
     ensures none { IfNone result (IsSomeAnd (find single_cmp tt (typed_of map.now).volume) IsVolumeRecord → ⊥) }
 {
-    let volume = get::<Volume>(map, ())?;
+    let volume = get::<VolumeTable>(map, ())?;
     if volume_record_holds(volume) {
         Some(volume.next_id)
     } else {
@@ -55,7 +57,7 @@ fn stored_settings(alloc: Global, map: &ByteMap) -> Result<Option<Settings>, Mem
     requires { AllWellFormed map.now }
     ensures { IfOk result (λ found. found ≡ find single_cmp tt (typed_of map.now).settings) }
 {
-    match map.get(&[9]) {
+    match map.get(&SETTINGS_KEY) {
         Some(value) => Settings::read_value(alloc, value),
         None => Ok(None),
     }
@@ -81,7 +83,7 @@ fn find_result(map: &ByteMap, kind: JobKind) -> Option<ResultRecord>
     ensures lawful { IfSome result (λ last. IsResultRecord last) }
     ensures none { IfNone result (IsSomeAnd (find kind_cmp kind (typed_of map.now).results) IsResultRecord → ⊥) }
 {
-    let last = get::<Results>(map, kind)?;
+    let last = get::<ResultTable>(map, kind)?;
     if result_holds(last) { Some(last) } else { None }
 }
 
@@ -109,8 +111,10 @@ fn find_results(map: &ByteMap) -> Option<LastResults>
 pub(crate) fn find_records(alloc: Global, map: &ByteMap) -> Result<Option<Records>, Memory>
     requires { AllWellFormed map.now }
     ensures some { IfOk result (λ found. IfSome found (AreRecordsOf (typed_of map.now))) }
-    ensures hold { IfOk result (λ found. IfSome found (λ records. RecordsHold (typed_of map.now))) }
-    ensures none { IfOk result (λ found. IfNone found (RecordsHold (typed_of map.now) → ⊥)) }
+    ensures hold { let t = typed_of map.now in
+        IfOk result (λ found. IfSome found (λ records. RecordsHold t.volume t.settings t.results)) }
+    ensures none { let t = typed_of map.now in
+        IfOk result (λ found. IfNone found (RecordsHold t.volume t.settings t.results → ⊥)) }
 {
     let Some(next_id) = find_next_id(map) else {
         return Ok(None);

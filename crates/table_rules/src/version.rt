@@ -6,7 +6,7 @@ ghost use Rattle.byte_map.specs.Words.{bytes_cmp};
 ghost use Rattle.volume_inside.specs.InsideOf.{HasVersion};
 
 use byte_map::ByteMap;
-use table_records::{Table, Volume};
+use table_records::{Table, VolumeTable};
 
 /// The version of the volume's record, where that is there with its twelve bytes and the version is not known.
 pub fn unknown_version(map: &ByteMap) -> Option<u32>
@@ -14,10 +14,10 @@ pub fn unknown_version(map: &ByteMap) -> Option<u32>
     ensures none { IfNone result ((found : ℕ) → HasVersion found map.now → ⊥) }
     ensures sorted { T (is_sorted bytes_cmp map.now) }
 {
-    let value = map.get(&[1])?;
+    let value = map.get(&[VolumeTable::NUMBER])?;
     if value.len() != 12 {
         return None;
     }
-    let version = Volume::read_value(value).version;
+    let version = VolumeTable::read_value(value).version;
     if version == 1 { None } else { Some(version) }
 }

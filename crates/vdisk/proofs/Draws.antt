@@ -1,5 +1,5 @@
 -- How the bytes that a pick draws are laid over the pending places.
-use Rattle.std.proofs.Common.{◌≡◌, ◌≢◌, ◌<◌, ◌+◌, ◌/◌, ◌^◌, ⊎_elim, ℕ, zero, suc, Bool, true, false, List, length, get_or, set, sym, ◌∙◌, ap, subst, refl, arith, eqb, leb, ◌||◌, ◌-◌, if◌then◌else◌, [], ◌∷◌, add-one, get_or-set_other, get_or-set_same}
+use Rattle.std.proofs.Common.{◌≡◌, ◌≢◌, ◌<◌, ◌≤◌, ◌+◌, ◌/◌, ◌^◌, ⊎_elim, ℕ, zero, suc, Bool, true, false, List, length, get_or, set, sym, ◌∙◌, ap, subst, refl, arith, eqb, leb, ◌||◌, ◌-◌, if◌then◌else◌, [], ◌∷◌, add-one, get_or-set_other, get_or-set_same}
 use Rattle.std.proofs.lemmas.Bool.{cases_Bool, cases_lt, cases_eq, cond-true, cond-false, or_parts, ne_eqb, both_ways}
 use Rattle.std.proofs.lemmas.List.{get_or_past}
 use Rattle.vdisk.specs.Past.{is_sync, touches, lies_in, is_pending, byte_before, byte_at_sync}
@@ -27,8 +27,29 @@ pub record Drawn (seed : ℕ) (marks : List Bool) (first : List ℕ) (i state : 
       → get_or now k 0 ≡ drawn_byte seed (places_below (marked marks) k)
   pub clean : (k : ℕ) → get_or marks k false ≡ false → get_or now k 0 ≡ get_or first k 0
 
-pub drawn_start : (seed : ℕ) (marks : List Bool) (first : List ℕ) → Drawn seed marks first 0 seed first
-drawn_start seed marks first = record { state_is = refl; drawn = λ k low hit. absurd (omega (arith, low)); clean = λ k miss. refl }
+-- no place below i is marked
+none_below : (marks : List Bool) (i : ℕ) → ((k : ℕ) → k < i → get_or marks k false ≡ false) → places_below (marked marks) i ≡ 0
+none_below marks zero none = refl
+none_below marks (suc i) none =
+    cond-false (get_or marks i false) (places_below (marked marks) i + 1) (places_below (marked marks) i) (none i (omega arith))
+    ∙ none_below marks i (λ k low. none k (omega (arith, low)))
+
+pub drawn_start : (seed : ℕ) (marks : List Bool) (first : List ℕ) (from : ℕ) → ((k : ℕ) → k < from → get_or marks k false ≡ false)
+    → Drawn seed marks first from seed first
+drawn_start seed marks first from none = record {
+  state_is = ap (state_after seed) (sym (none_below marks from none));
+  drawn = λ k low hit. absurd (both_ways (get_or marks k false) (none k low) hit);
+  clean = λ k miss. refl;
+}
+
+-- a place that is not in the stretch is not marked
+pub unmarked : (marks : List Bool) (size from to : ℕ) → length marks ≡ size
+    → ((i : ℕ) → i < size → get_or marks i false ≡ true → (from ≤ i) × (i < to)) → (k : ℕ) → k < from → get_or marks k false ≡ false
+unmarked marks size from to long stretch k low = ⊎_elim
+    (λ hit. ⊎_elim (λ within. absurd (omega (arith, low, (stretch k within hit).0)))
+    (λ past. get_or_past marks k false (omega (arith, past, long))) (cases_lt k size))
+    (λ miss. miss)
+    (cases_Bool (get_or marks k false))
 
 pub drawn_hit : (seed : ℕ) (marks : List Bool) (first : List ℕ) (i state : ℕ) (now : List ℕ) → i < length now
     → get_or marks i false ≡ true → Drawn seed marks first i state now

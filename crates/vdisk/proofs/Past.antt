@@ -6,17 +6,17 @@ use Rattle.std.proofs.lemmas.Bool.{cases_lt, le-leb, lt-leb, lt-ltb, le-ltb, and
 use Rattle.std.specs.declared.alloc.Global.{Global}
 use Rattle.vdisk.specs.declared.record.Event.{Event}
 use Rattle.vdisk.specs.declared.record.Change.TheVariants.{Wrote, Grew, Synced}
-use Rattle.vdisk.specs.Past.{Leaves, Had, before, put, lies_in, is_pending, byte_before, byte_at_sync}
+use Rattle.vdisk.specs.Past.{LeftByCrash, Had, before, put, lies_in, is_pending, byte_before, byte_at_sync}
 use Rattle.vdisk.specs.Laws.{IsMix}
 use Rattle.vdisk.specs.Disk.{ChangedWithin, GrownTo, Follows, Only}
 use Rattle.vdisk.specs.Ranges.{changed_wider}
 
 -- what a crash since t might have left
 abbrev pub Since : List ℕ → List Event → ℕ → List ℕ → Type 0
-Since image es t c = Leaves image es c ⊎ Had t image es c
+Since image es t c = LeftByCrash image es c ⊎ Had t image es c
 
 pub record GoesOn (m : ℕ) (image : List ℕ) (es : List Event) (image' : List ℕ) (es' : List Event) : Type 0 where
-  pub since : (t : ℕ) (c : List ℕ) → t ≤ m → Since image' es' t c → Since image es t c ⊎ Leaves image' es' c
+  pub since : (t : ℕ) (c : List ℕ) → t ≤ m → Since image' es' t c → Since image es t c ⊎ LeftByCrash image' es' c
   pub keeps : (t : ℕ) (c : List ℕ) → t ≤ m → Since image es t c → Since image' es' t c
 
 pub had_later : (t u : ℕ) (image : List ℕ) (es : List Event) (c : List ℕ) → t ≤ u → Had u image es c → Had t image es c
@@ -33,10 +33,10 @@ push : (m : ℕ) (image : List ℕ) (es : List Event) (e : Event) (image' : List
     → before e.change image' ≡ image → GoesOn m image es image' (e ∷ es)
 push m image es e image' now back = record {
   since = λ t c le left. ⊎_elim (λ new. inr new) (λ had. ⊎_elim
-      (λ last. inl (inl (subst (λ (l : List ℕ). Leaves l es c) back last.1)))
+      (λ last. inl (inl (subst (λ (l : List ℕ). LeftByCrash l es c) back last.1)))
       (λ past. inl (inr (subst (λ (l : List ℕ). Had t l es c) back past))) had) left;
   keeps = λ t c le left. ⊎_elim
-      (λ last. inr (inl (omega (arith, now, le), subst (λ (l : List ℕ). Leaves l es c) (sym back) last)))
+      (λ last. inr (inl (omega (arith, now, le), subst (λ (l : List ℕ). LeftByCrash l es c) (sym back) last)))
       (λ past. inr (inr (subst (λ (l : List ℕ). Had t l es c) (sym back) past))) left;
 }
 
@@ -117,7 +117,7 @@ put_changes at x b fits = record {
 -- what a crash leaves after a write, with the old bytes of the range put back, a crash might have left before it
 pub crash_wrote : (at n : ℕ) (x y : List ℕ) (v : Vec ℕ Global) (stamp : ℕ) (es : List Event)
     → at + n ≤ length x → ChangedWithin at n x y → v.items ≡ take n (drop at x)
-    → Follows (ChangedWithin at n) (Leaves x es) (Leaves y (record { stamp = stamp; change = Wrote at v } ∷ es))
+    → Follows (ChangedWithin at n) (LeftByCrash x es) (LeftByCrash y (record { stamp = stamp; change = Wrote at v } ∷ es))
 crash_wrote at n x y v stamp es fits change is c left =
     let long : length v.items ≡ n = omega (arith, ap length is, length-piece x at n fits) in
     let size : length c ≡ length x = left.size ∙ change.size in
@@ -144,8 +144,8 @@ crash_wrote at n x y v stamp es fits change is c left =
 
 -- and every such image may be left
 pub may_tear : (at n : ℕ) (x y d c : List ℕ) (v : Vec ℕ Global) (stamp : ℕ) (es : List Event)
-    → length v.items ≡ n → ChangedWithin at n x y → Leaves x es d → ChangedWithin at n d c
-    → Leaves y (record { stamp = stamp; change = Wrote at v } ∷ es) c
+    → length v.items ≡ n → ChangedWithin at n x y → LeftByCrash x es d → ChangedWithin at n d c
+    → LeftByCrash y (record { stamp = stamp; change = Wrote at v } ∷ es) c
 may_tear at n x y d c v stamp es long change left torn = record {
   size = torn.size ∙ left.size ∙ sym change.size;
   clean = λ i none.
@@ -156,7 +156,7 @@ may_tear at n x y d c v stamp es long change left torn = record {
 
 pub crash_grew : (to from : ℕ) (image image' : List ℕ) (stamp : ℕ) (es : List Event) → from ≡ length image
     → take (length image) image' ≡ image → length image' ≡ to → length image ≤ to
-    → Follows (GrownTo to) (Leaves image es) (Leaves image' (record { stamp = stamp; change = Grew from } ∷ es))
+    → Follows (GrownTo to) (LeftByCrash image es) (LeftByCrash image' (record { stamp = stamp; change = Grew from } ∷ es))
 crash_grew to from image image' stamp es starts front size more c left =
     let n = length image in
     let long : length (take n c) ≡ n = length-take-le n c (omega (arith, left.size, size, more)) in (
@@ -179,7 +179,7 @@ crash_grew to from image image' stamp es starts front size more c left =
 -- and every image that goes on behind the old end may be left
 pub may_grow : (to from : ℕ) (image image' d c : List ℕ) (stamp : ℕ) (es : List Event) → from ≡ length image
     → take (length image) image' ≡ image → length image' ≡ to
-    → Leaves image es d → GrownTo to d c → length c ≡ to → Leaves image' (record { stamp = stamp; change = Grew from } ∷ es) c
+    → LeftByCrash image es d → GrownTo to d c → length c ≡ to → LeftByCrash image' (record { stamp = stamp; change = Grew from } ∷ es) c
 may_grow to from image image' d c stamp es starts front size left grown long = record {
   size = long ∙ sym size;
   clean = λ i none.
@@ -191,7 +191,7 @@ may_grow to from image image' d c stamp es starts front size left grown long = r
 }
 
 pub durable_synced : (image : List ℕ) (stamp : ℕ) (es : List Event)
-    → Only image (Leaves image (record { stamp = stamp; change = Synced } ∷ es))
+    → Only image (LeftByCrash image (record { stamp = stamp; change = Synced } ∷ es))
 durable_synced image stamp es c left = ext_get_or 0 c image left.size (λ i h. left.clean i refl)
 
 -- the byte that was there, put back
@@ -227,13 +227,13 @@ module _ (at n m : ℕ) (x y : List ℕ) (v : Vec ℕ Global) (events events' : 
   pub wrote_on : GoesOn m x (reverse events) y (reverse events')
   wrote_on = pushed m x events events' (record { stamp = m; change = Wrote at v }) y is refl (taken_back at n x y v.items fits change was)
 
-  pub wrote_crash : Follows (ChangedWithin at n) (Leaves x (reverse events)) (Leaves y (reverse events'))
-  wrote_crash = subst (λ (es : List Event). Follows (ChangedWithin at n) (Leaves x (reverse events)) (Leaves y es)) (sym (newest events events' (record { stamp = m; change = Wrote at v }) is)) (crash_wrote at n x y v m (reverse events) fits change was)
+  pub wrote_crash : Follows (ChangedWithin at n) (LeftByCrash x (reverse events)) (LeftByCrash y (reverse events'))
+  wrote_crash = subst (λ (es : List Event). Follows (ChangedWithin at n) (LeftByCrash x (reverse events)) (LeftByCrash y es)) (sym (newest events events' (record { stamp = m; change = Wrote at v }) is)) (crash_wrote at n x y v m (reverse events) fits change was)
 
-  pub wrote_any : (d c : List ℕ) → Leaves x (reverse events) d → ChangedWithin at n d c → Leaves y (reverse events') c
+  pub wrote_any : (d c : List ℕ) → LeftByCrash x (reverse events) d → ChangedWithin at n d c → LeftByCrash y (reverse events') c
   wrote_any d c left torn =
       let long : length v.items ≡ n = omega (arith, ap length was, length-piece x at n fits) in
-      subst (λ (es : List Event). Leaves y es c) (sym (newest events events' (record { stamp = m; change = Wrote at v }) is)) (may_tear at n x y d c v m (reverse events) long change left torn)
+      subst (λ (es : List Event). LeftByCrash y es c) (sym (newest events events' (record { stamp = m; change = Wrote at v }) is)) (may_tear at n x y d c v m (reverse events) long change left torn)
 
   pub wrote_synced : (i : ℕ)
       → byte_at_sync (reverse events') i (get_or y i 0) ≡ byte_at_sync (reverse events) i (get_or x i 0)
@@ -260,7 +260,7 @@ synced_now m x events events' is i = ap (λ (es : List Event). byte_at_sync es i
 -- each mix of the bytes before a write and the written ones may be left
 pub mix_left : (image bytes c : List ℕ) (at stamp : ℕ) (past : List Event) (was : Vec ℕ Global)
     → at + length bytes ≤ length image → length was.items ≡ length bytes → IsMix at bytes image c
-    → Leaves (put image at bytes) (record { stamp = stamp; change = Wrote at was } ∷ past) c
+    → LeftByCrash (put image at bytes) (record { stamp = stamp; change = Wrote at was } ∷ past) c
 mix_left image bytes c at stamp past was fits long mix =
     let n = length bytes in
     let change = put_changes at image bytes fits in

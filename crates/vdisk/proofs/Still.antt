@@ -4,7 +4,7 @@ use Rattle.std.proofs.lemmas.List.{take_all}
 use Rattle.vdisk.specs.Causes.{HasCause}
 use Rattle.vdisk.specs.Disk.{ChangedWithin, GrownTo, Follows}
 use Rattle.vdisk.specs.Faults.{counted_on}
-use Rattle.vdisk.specs.Past.{Leaves, byte_at_sync}
+use Rattle.vdisk.specs.Past.{LeftByCrash, byte_at_sync}
 use Rattle.vdisk.specs.declared.record.Event.{Event}
 use Rattle.vdisk.proofs.Past.{GoesOn, same_past}
 
@@ -23,12 +23,12 @@ module _ (x y : List ℕ) (events events' : List Event) (is : y ≡ x) (same : e
   pub still_on : (m : ℕ) → GoesOn m x (reverse events) y (reverse events')
   still_on m = same_past m x (reverse events) y (reverse events') is (ap reverse same)
 
-  pub still_left : (c : List ℕ) → Leaves y (reverse events') c → Leaves x (reverse events) c
-  still_left c left = subst (λ (p : List ℕ × List Event). Leaves p.0 (reverse p.1) c) (λ i. (is i, same i)) left
+  pub still_left : (c : List ℕ) → LeftByCrash y (reverse events') c → LeftByCrash x (reverse events) c
+  still_left c left = subst (λ (p : List ℕ × List Event). LeftByCrash p.0 (reverse p.1) c) (λ i. (is i, same i)) left
 
-  pub left_still : (c : List ℕ) → Leaves x (reverse events) c → Leaves y (reverse events') c
+  pub left_still : (c : List ℕ) → LeftByCrash x (reverse events) c → LeftByCrash y (reverse events') c
   left_still c left =
-      subst (λ (p : List ℕ × List Event). Leaves p.0 (reverse p.1) c) (λ i. (sym is i, sym same i)) left
+      subst (λ (p : List ℕ × List Event). LeftByCrash p.0 (reverse p.1) c) (λ i. (sym is i, sym same i)) left
 
   pub still_synced : (k : ℕ)
       → byte_at_sync (reverse events') k (get_or y k 0) ≡ byte_at_sync (reverse events) k (get_or x k 0)
@@ -38,7 +38,7 @@ module _ (x y : List ℕ) (events events' : List Event) (is : y ≡ x) (same : e
   still_grown to fits = subst (λ (l : List ℕ). GrownTo to x l) (sym is) (grown_same to x fits)
 
   pub still_grows : (to : ℕ) → length x ≤ to
-      → Follows (GrownTo to) (Leaves x (reverse events)) (Leaves y (reverse events'))
+      → Follows (GrownTo to) (LeftByCrash x (reverse events)) (LeftByCrash y (reverse events'))
   still_grows to fits c left =
       let was = still_left c left in (c, was, grown_same to c (omega (arith, was.size, fits)))
 
@@ -46,5 +46,5 @@ module _ (x y : List ℕ) (events events' : List Event) (is : y ≡ x) (same : e
   still_changed at n = subst (λ (l : List ℕ). ChangedWithin at n x l) (sym is) (unchanged at n x)
 
   pub still_changes : (at n : ℕ)
-      → Follows (ChangedWithin at n) (Leaves x (reverse events)) (Leaves y (reverse events'))
+      → Follows (ChangedWithin at n) (LeftByCrash x (reverse events)) (LeftByCrash y (reverse events'))
   still_changes at n c left = (c, still_left c left, unchanged at n c)

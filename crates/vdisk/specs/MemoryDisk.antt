@@ -2,7 +2,7 @@
 use Rattle.std.specs.Prelude.{◌⊎◌, ℕ, List, reverse, get_or, true, refl}
 use Rattle.std.proofs.Common.{inl, inr}
 use Rattle.vdisk.specs.Disk.{DiskState}
-use Rattle.vdisk.specs.Past.{Leaves, Had, byte_at_sync}
+use Rattle.vdisk.specs.Past.{LeftByCrash, Had, byte_at_sync}
 use Rattle.vdisk.specs.Picks.{IsPicked}
 use Rattle.vdisk.specs.declared.record.Event.{Event}
 use Rattle.vdisk.specs.declared.faults.FaultPlan.{FaultPlan}
@@ -13,8 +13,8 @@ abbrev pub past_of : MemoryDisk → List Event
 past_of m = reverse m.events.items
 
 abbrev pub only_now : (m : MemoryDisk) (c : List ℕ)
-    → Leaves m.bytes.items (past_of m) c ⊎ Had m.moment m.bytes.items (past_of m) c
-    → Leaves m.bytes.items (past_of m) c
+    → LeftByCrash m.bytes.items (past_of m) c ⊎ Had m.moment m.bytes.items (past_of m) c
+    → LeftByCrash m.bytes.items (past_of m) c
 only_now m c (inl now) = now
 only_now m c (inr had) = absurd (m.ends_before_now c had)
 
@@ -22,9 +22,9 @@ abbrev pub memory_state : MemoryDisk → DiskState
 memory_state m = record {
   tells = true;
   image = m.bytes.items;
-  may_leave = Leaves m.bytes.items (past_of m);
+  may_leave = LeftByCrash m.bytes.items (past_of m);
   moment = m.moment;
-  left_since = λ t c. Leaves m.bytes.items (past_of m) c ⊎ Had t m.bytes.items (past_of m) c;
+  left_since = λ t c. LeftByCrash m.bytes.items (past_of m) c ⊎ Had t m.bytes.items (past_of m) c;
   faults = m.faults;
   small = m.small;
   timed = m.timed;

@@ -35,14 +35,14 @@ is_pending [] i = false
 is_pending (e ∷ es) i = if is_sync e.change then false else (touches e.change i || is_pending es i)
 
 -- a crash may leave this: any bytes where one is pending, and what reads give elsewhere
-pub record Leaves (image : List ℕ) (events : List Event) (c : List ℕ) : Type 0 where
+pub record LeftByCrash (image : List ℕ) (events : List Event) (c : List ℕ) : Type 0 where
   pub size : length c ≡ length image
   pub clean : (i : ℕ) → is_pending events i ≡ false → get_or c i 0 ≡ get_or image i 0
 
 -- at some moment since t, before the last of these events, a crash might have left this
 abbrev pub Had : ℕ → List ℕ → List Event → List ℕ → Type 0
 Had t image [] c = ⊥
-Had t image (e ∷ es) c = ((t ≤ e.stamp) × Leaves (before e.change image) es c) ⊎ Had t (before e.change image) es c
+Had t image (e ∷ es) c = ((t ≤ e.stamp) × LeftByCrash (before e.change image) es c) ⊎ Had t (before e.change image) es c
 
 -- the byte of place i before a change: 0 past the size of then
 abbrev pub byte_before : Change → ℕ → ℕ → ℕ

@@ -3,8 +3,8 @@ ghost use Rattle.std.specs.Prelude.{◌≡◌, ◌≢◌, ◌⊎◌, ◌<◌, �
 ghost use Rattle.vdisk.specs.Past.{is_sync as is_sync_change, touches, is_pending, byte_before, byte_at_sync};
 ghost use Rattle.vdisk.specs.Picks.{next_state, drawn_byte, places_below, IsPicked};
 
-use crate::memory::Memory;
 use crate::record::{Change, Event};
+use groundwork::Memory;
 use std::alloc::Global;
 
 /// The factor of the linear congruential generator: Knuth's for 64 bits.
@@ -18,7 +18,7 @@ pub fn as_synced(alloc: Global, image: &[u8], events: &[Event]) -> Result<Vec<u8
     ensures { IfOk result (λ v. IsPicked image.now (reverse events.now) 0 v.items) }
 {
     let mut synced = image.to_vec(alloc)?;
-    undo(&mut synced, events);
+    undo_unsynced(&mut synced, events);
     Ok(synced)
 }
 
@@ -30,12 +30,13 @@ pub fn drawn(alloc: Global, image: &[u8], events: &[Event], pick: u64) -> Result
 {
     let pending = pending_places(alloc, image.len(), events)?;
     let mut crashed = image.to_vec(alloc)?;
-    draw(&mut crashed, &pending, pick);
+    let (from, to) = touched(events, image.len());
+    draw(&mut crashed, &pending, from, to, pick);
     Ok(crashed)
 }
 
-/// Takes the events since the last sync back, the newest first.
-fn undo(image: &mut [u8], events: &[Event])
+/// Undoes the events since the last sync, the newest first.
+fn undo_unsynced(image: &mut [u8], events: &[Event])
     ensures { (i : ℕ) → i < length image.old →
         get_or image.new i 0 ≡ byte_at_sync (reverse events.now) i (get_or image.old i 0) }
 {
@@ -44,7 +45,7 @@ fn undo(image: &mut [u8], events: &[Event])
         if is_sync(&last.change) {
             return;
         }
-        take_back(image, &last.change);
+        undo(image, &last.change);
         left = rest;
     }
 }
@@ -59,8 +60,8 @@ fn is_sync(change: &Change) -> bool
     }
 }
 
-/// Takes a change back, with zeros past the size of before.
-fn take_back(image: &mut [u8], change: &Change)
+/// Undoes a change, with zeros past the size of before.
+fn undo(image: &mut [u8], change: &Change)
     ensures { (i : ℕ) → i < length image.old → get_or image.new i 0 ≡ byte_before change.now i (get_or image.old i 0) }
 {
     match change {
@@ -141,16 +142,54 @@ fn mark(pending: &mut [bool], at: usize, n: usize)
     }
 }
 
-/// Draws a byte for each pending place, in ascending order.
-fn draw(image: &mut [u8], pending: &[bool], seed: u64)
-    requires { length pending.now ≡ length image.old }
+/// The stretch of an image that the events since the last sync touched.
+fn touched(events: &[Event], size: usize) -> (usize, usize)
+    ensures inside { (i : ℕ) → i < size → is_pending (reverse events.now) i ≡ true →
+        (result.0 ≤ i) × (i < result.1) }
+    ensures end { result.1 ≤ size }
+{
+    let mut from = size;
+    let mut to = 0;
+    let mut left = events;
+    while let Some((last, rest)) = left.split_last() {
+        if is_sync(&last.change) {
+            return (from, to);
+        }
+        let change = stretch(&last.change, size);
+        from = from.min(change.0);
+        to = to.max(change.1);
+        left = rest;
+    }
+    (from, to)
+}
+
+/// The stretch of an image that a change touches.
+fn stretch(change: &Change, size: usize) -> (usize, usize)
+    ensures inside { (i : ℕ) → i < size → touches change.now i ≡ true → (result.0 ≤ i) × (i < result.1) }
+    ensures end { result.1 ≤ size }
+{
+    match change {
+        Change::Wrote(at, was) => {
+            let at = *at as usize;
+            (at, size.min(at.saturating_add(was.len())))
+        }
+        Change::Grew(from) => (*from as usize, size),
+        Change::Synced => (size, 0),
+    }
+}
+
+/// Draws a byte for each pending place, in ascending order. They lie in a stretch.
+fn draw(image: &mut [u8], pending: &[bool], from: usize, to: usize, seed: u64)
+    requires size { length pending.now ≡ length image.old }
+    requires stretch { (i : ℕ) → i < length image.old → get_or pending.now i false ≡ true → (from ≤ i) × (i < to) }
+    requires end { to ≤ length image.old }
     ensures clean { (i : ℕ) → i < length image.old → get_or pending.now i false ≡ false
         → get_or image.new i 0 ≡ get_or image.old i 0 }
     ensures drawn { (i : ℕ) → i < length image.old → get_or pending.now i false ≡ true →
         get_or image.new i 0 ≡ drawn_byte seed (places_below (λ k. get_or pending.now k false) i) }
 {
     let mut state = seed;
-    for i in 0..image.len() {
+    for i in from..to {
         state = draw_at(image, i, pending[i], state);
     }
 }

@@ -5,7 +5,7 @@ ghost use Rattle.vdisk.specs.declared.record.Event.{Event};
 ghost use Rattle.vdisk.specs.declared.record.Change.TheVariants.{Wrote};
 ghost use Rattle.vdisk.specs.Disk.{ChangedWithin, Elapses, Follows};
 ghost use Rattle.vdisk.specs.Laws.{IsMix};
-ghost use Rattle.vdisk.specs.Past.{Leaves, put};
+ghost use Rattle.vdisk.specs.Past.{LeftByCrash, put};
 ghost use Rattle.vdisk.specs.Ranges.{part};
 
 use crate::disk::Disk;
@@ -15,7 +15,7 @@ use crate::disk::Disk;
 pub fn a_write_may_tear_at_every_byte()
     ensures { (image bytes mix : List ℕ) (at stamp : ℕ) (past : List Event) (was : Vec ℕ Global) →
         at + length bytes ≤ length image → length was.items ≡ length bytes → IsMix at bytes image mix →
-        Leaves (put image at bytes) (record { stamp = stamp; change = Wrote at was } ∷ past) mix }
+        LeftByCrash (put image at bytes) (record { stamp = stamp; change = Wrote at was } ∷ past) mix }
 {}
 
 /// What a crash since a moment before a call might have left, it might have left by then, or it may leave after the

@@ -7,8 +7,7 @@ mod crash;
 mod disk;
 mod faults;
 mod file_disk;
-mod laws;
-mod memory;
+pub mod laws;
 mod memory_disk;
 mod memory_streams;
 mod record;
@@ -21,10 +20,7 @@ mod writes;
 pub use cause::Cause;
 pub use disk::{Disk, Failed};
 pub use file_disk::FileDisk;
-pub use laws::{
-    a_call_adds_what_it_may_leave, a_write_may_tear_at_every_byte, time_goes_on, unnamed_bytes_stay,
-};
-pub use memory::Memory;
+pub use groundwork::Memory;
 pub use memory_disk::MemoryDisk;
 pub use memory_streams::{MemoryClock, MemorySink, MemorySource};
 pub use standard_streams::StandardStreams;

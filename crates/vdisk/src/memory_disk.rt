@@ -5,9 +5,9 @@ ghost use Rattle.vdisk.specs.Past.{Had};
 use crate::crash::{as_synced, drawn};
 use crate::disk::{Disk, Failed};
 use crate::faults::{FaultPlan, count_fault};
-use crate::memory::Memory;
 use crate::record::{Change, Event};
 use crate::writes::{grow_to, part_kept, push_event, write_at};
+use groundwork::Memory;
 use std::alloc::Global;
 
 /// A disk in memory, which tells all that it holds and keeps how to take back each call that changed it.

@@ -1,28 +1,30 @@
 -- What a call adds to what a volume has spent.
-use Rattle.std.specs.Prelude.{◌≡◌, ◌≤◌, ◌+◌, ◌&&◌, ◌||◌, ℕ, Bool, true, false, nat_eq, nat_lt}
+use Rattle.std.specs.Prelude.{◌≡◌, ◌≤◌, ◌+◌, ◌&&◌, ◌||◌, ℕ, Bool, true, false, nat_eq}
 use Rattle.std.specs.Prelude.{IsTrue, length}
 use Rattle.std.proofs.Common.{ap, sym, ◌∙◌, arith}
 use Rattle.vdisk.specs.declared.disk.Disk.{Ghosts}
+use Rattle.meta_log.specs.Log.{passes_half}
 use Rattle.meta_log.specs.Meta.{last_epoch}
 use Rattle.plain_volume.specs.declared.call.Call.{Call}
 use Rattle.volume_inside.specs.Fresh.{fresh_tables}
+use Rattle.volume_inside.specs.Layout.{half_bytes}
 use Rattle.volume_inside.specs.Named.{clusters_of}
 use Rattle.volume_inside.specs.Rules.{next_id_of}
 use Rattle.volume_inside.specs.Typed.{Typed}
-use Rattle.volume_tables.specs.Log.{log_epoch}
+use Rattle.volume_tables.specs.Log.{log_epoch, log_place}
 use Rattle.volume_tables.specs.Tables.{tables_now, due_of, would_wear}
 use Rattle.volume_tables.specs.declared.tables.Tables.{Tables}
 use Rattle.volume_tables.specs.Reads.{ReadsOnly}
 use Rattle.volume_tables.specs.Spending.{Spends}
 use Rattle.volume_core.specs.Bounds.{touched_by, changed_by, HasSpent, Adds}
-use Rattle.volume_core.specs.Volumes.{stopped, Endures}
+use Rattle.volume_core.specs.Volumes.{clusters_in, stopped, Endures}
 use Rattle.volume_core.specs.declared.volume.Volume.{Volume as Mounted}
 use Rattle.volume_core.proofs.Bounds.{worn_late}
 
 module _ {D : Type 0} {d : Ghosts D} where
   -- a fresh volume has spent nothing
   pub fresh_spent : (v : Mounted D d) → tables_now v.tables ≡ fresh_tables → v.tables.worn ≡ false
-      → log_epoch v.tables.log ≤ 2 → HasSpent v 0 0
+      → log_epoch v.tables.log ≡ 1 → HasSpent v 0 0
   fresh_spent v now fresh epoch = record {
     clusters = let none = ap (λ (t : Typed). length (clusters_of t)) now in omega (arith, none);
     ids = let first = ap next_id_of now in omega (arith, first);
@@ -60,8 +62,8 @@ module _ {D : Type 0} {d : Ghosts D} where
       where
         wears : v.tables.worn ≡ true → IsTrue (would_wear v.tables)
         wears was =
-            ap (λ (b : Bool). b || ((nat_lt 0 (due_of v.tables) && nat_lt v.tables.log.half
-            (v.tables.log.place + (37 + due_of v.tables))) && nat_eq v.tables.log.epoch last_epoch)) was
+            ap (λ (b : Bool). b || (passes_half (half_bytes (clusters_in v)) (log_place v.tables.log) (due_of v.tables)
+            && nat_eq (log_epoch v.tables.log) last_epoch)) was
 
     -- a call that only reads
     pub reads_add : ReadsOnly v.tables w.tables → Adds call v w
@@ -83,8 +85,8 @@ module _ {D : Type 0} {d : Ghosts D} where
     -- a commit
     pub commit_adds : changed_by call ≡ 1 → tables_now w.tables ≡ tables_now v.tables
         → (stopped w ≡ false → log_epoch w.tables.log ≤ log_epoch v.tables.log + 1)
-        → (w.tables.worn ≡ true → IsTrue (would_wear v.tables)) → Adds call v w
+        → (stopped w ≡ false → w.tables.worn ≡ true → IsTrue (would_wear v.tables)) → Adds call v w
     commit_adds one now epoch tires =
         adds (let same = ap (λ (t : Typed). length (clusters_of t)) now in omega (arith, same))
         (let same = ap next_id_of now in omega (arith, same)) (ap (λ (t : Typed). t.settings) now)
-        (λ runs. let taken = epoch runs in omega (arith, taken, one)) (λ runs. tires)
+        (λ runs. let taken = epoch runs in omega (arith, taken, one)) tires

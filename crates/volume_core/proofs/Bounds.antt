@@ -13,6 +13,7 @@ use Rattle.std.proofs.Common.{zero, suc, sym, ap, ◌∙◌, subst, arith}
 use Rattle.std.proofs.lemmas.Bool.{eqb-true, ltb-true}
 use Rattle.std.proofs.lemmas.List.Filters.{length-filter_both}
 use Rattle.vdisk.specs.declared.disk.Disk.{Ghosts}
+use Rattle.meta_log.specs.Log.{passes_half}
 use Rattle.meta_log.specs.Meta.{last_epoch}
 use Rattle.plain_volume.specs.declared.call.Call.{Call}
 use Rattle.plain_volume.specs.declared.call.Call.TheVariants.{Create, Write, SetLength, Rename, Delete, Read, Digest}
@@ -21,7 +22,8 @@ use Rattle.plain_volume.specs.declared.call.Fault.{Fault}
 use Rattle.plain_volume.specs.declared.call.Fault.TheVariants.{Worn, TableFull, Full}
 use Rattle.table_records.specs.Codecs.{typed}
 use Rattle.table_records.specs.Keys.{pair_cmp}
-use Rattle.table_records.specs.Laws.{is_less, first_holds, second_holds}
+use Rattle.groundwork.proofs.Orders.{is_less}
+use Rattle.groundwork.proofs.Bools.{first_true, second_true}
 use Rattle.table_records.specs.Next.{sorted_typed}
 use Rattle.table_records.specs.Orders.{some_same}
 use Rattle.table_records.specs.Tables.{volume_codec, name_codec, file_codec, extent_codec, settings_codec, result_codec}
@@ -37,7 +39,7 @@ use Rattle.volume_inside.specs.Named.{extent_clusters}
 use Rattle.volume_inside.specs.Rules.{next_id_of}
 use Rattle.volume_inside.specs.Typed.{Typed, FileBlock}
 use Rattle.volume_inside.specs.View.{named_cells, view}
-use Rattle.volume_tables.specs.Log.{log_now}
+use Rattle.volume_tables.specs.Log.{log_now, log_epoch, log_place}
 use Rattle.volume_tables.specs.Sizes.{name_bytes, setting_bytes}
 use Rattle.volume_tables.specs.Tables.{tables_now, inside_now, checkpoint_of, would_wear, due_of}
 use Rattle.volume_tables.proofs.Answers.{as_true}
@@ -99,17 +101,17 @@ others_named : (id : ℕ) (files : List (ℕ × FileRecord)) (names : Names) →
     → Each (λ x file. length (filter (has_id x) (filter (has_other id) names)) ≡ 1) files
 others_named id [] names low each = tt
 others_named id (f ∷ files) names low each =
-    let above : id < f.0 = less_means id f.0 (is_less (nat_cmp id f.0) (first_holds _ _ low)) in (
+    let above : id < f.0 = less_means id f.0 (is_less (nat_cmp id f.0) (first_true _ _ low)) in (
       still_named f.0 id (λ same. omega (arith, above, same)) names ∙ each.0,
-      others_named id files names (second_holds (is_lt (nat_cmp id f.0)) _ low) each.1,
+      others_named id files names (second_true (is_lt (nat_cmp id f.0)) _ low) each.1,
     )
 
 files_named : (files : List (ℕ × FileRecord)) (names : Names) → T (is_sorted nat_cmp files)
     → Each (λ x file. length (filter (has_id x) names) ≡ 1) files → length files ≤ length names
 files_named [] names sorted each = omega arith
 files_named (f ∷ files) names sorted each =
-    let low = first_holds (below_all nat_cmp f.0 files) _ sorted in
-    let rest = files_named files (filter (has_other f.0) names) (second_holds (below_all nat_cmp f.0 files) _ sorted)
+    let low = first_true (below_all nat_cmp f.0 files) _ sorted in
+    let rest = files_named files (filter (has_other f.0) names) (second_true (below_all nat_cmp f.0 files) _ sorted)
     (others_named f.0 files names low each.1) in
     let split = length-filter_both (has_id f.0) (has_other f.0) (λ x. refl) names in
     omega (arith, rest, split, each.0)
@@ -159,14 +161,14 @@ module _ {D : Type 0} {d : Ghosts D} (v : Mounted D d) (b i : ℕ) (has : HasSpe
   pub worn_late : would_wear v.tables ≡ true → last_epoch ≤ i + 2
   worn_late wears =
       by v.tables.worn refl
-      (nat_lt 0 (due_of v.tables) && nat_lt v.tables.log.half (v.tables.log.place + (37 + due_of v.tables)))
-      (nat_eq v.tables.log.epoch last_epoch) refl wears
+      (passes_half (half_bytes (clusters_in v)) (log_place v.tables.log) (due_of v.tables))
+      (nat_eq (log_epoch v.tables.log) last_epoch) refl wears
     where
-      by : (was : Bool) → v.tables.worn ≡ was → (turns last : Bool) → nat_eq v.tables.log.epoch last_epoch ≡ last
+      by : (was : Bool) → v.tables.worn ≡ was → (turns last : Bool) → nat_eq (log_epoch v.tables.log) last_epoch ≡ last
           → (was || (turns && last)) ≡ true → last_epoch ≤ i + 2
       by true is turns last at wears = has.worn is
       by false is turns last at wears =
-          let same = eqb-true v.tables.log.epoch last_epoch (at ∙ second_is turns last wears) in
+          let same = eqb-true (log_epoch v.tables.log) last_epoch (at ∙ second_is turns last wears) in
           omega (arith, same, has.epochs)
 
   used_up : would_wear v.tables ≡ true → 2 ^ 48 - 2 ≤ i

@@ -9,7 +9,7 @@ use Rattle.plain_volume.specs.Step.{plain, after}
 use Rattle.plain_volume.specs.Replies.{done_reply}
 use Rattle.plain_volume.specs.declared.call.Call.TheVariants.{Flush}
 use Rattle.plain_volume.specs.declared.call.Fault.{Fault}
-use Rattle.plain_volume.specs.declared.call.Fault.TheVariants.{Worn, Failed}
+use Rattle.plain_volume.specs.declared.call.Fault.TheVariants.{Worn, Failed, Damaged}
 use Rattle.volume_inside.specs.Named.{clusters_of}
 use Rattle.volume_inside.specs.Layout.{data_clusters}
 use Rattle.volume_inside.specs.Rules.{RulesHold}
@@ -44,6 +44,24 @@ flush_reply v wears before now (Err fault) worn refused rose = ⊎_elim
 pub flush_leaves : (v w : Volume) (r : Result (Unit {0}) Fault) → w ≡ v → w ≡ after v Flush (done_reply r)
 flush_leaves v w (Ok done) same = same
 flush_leaves v w (Err fault) same = same
+
+-- a commit meets no lost cell
+pub flush_undamaged : (r : Result (Unit {0}) Fault) → OnErr r (IsErrOf r Worn ⊎ IsErrOf r Failed) → (place : ℕ)
+    → IsErrOf r (Damaged place) → ⊥
+flush_undamaged (Ok done) refused place is = absurd (let clash : Ok done ≡ Err (Damaged place) = is in cc)
+flush_undamaged (Err fault) refused place is = ⊎_elim
+    (λ worn. absurd (let clash : Err (Damaged place) ≡ Err Worn = sym is ∙ worn in cc))
+    (λ failed. absurd (let clash : Err (Damaged place) ≡ Err Failed = sym is ∙ failed in cc))
+    refused
+
+-- what is so whatever was answered
+pub ok_known : (r : Result (Unit {0}) Fault) (P : Type 0) → P → OnOk r P
+ok_known (Ok done) P known = known
+ok_known (Err fault) P known = tt
+
+pub err_known : (r : Result (Unit {0}) Fault) (P : Type 0) → P → OnErr r P
+err_known (Ok done) P known = tt
+err_known (Err fault) P known = known
 
 -- only a commit that failed stops the tables
 pub flush_stops : (b : Bool) (r : Result (Unit {0}) Fault) → OnOk r (b ≡ false)

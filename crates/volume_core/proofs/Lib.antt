@@ -11,6 +11,9 @@ pub mod Written
 pub mod Bounds
 pub mod Adding
 pub mod Told
+pub mod Waiting
+pub mod Unfound
+pub mod Unlost
 pub mod Moving
 pub mod Stored
 pub mod Settled

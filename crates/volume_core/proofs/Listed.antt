@@ -94,7 +94,7 @@ front_of (Some name) = refl
 
 module _ {D : Type 0} {d : Ghosts D} (t : Tables D d) (sound : IsSound t) where
   names_short : Each (λ name id. length name ≤ 255) (tables_now t).names
-  names_short = each_weaker (NameHolds (tables_now t)) (λ name id. length name ≤ 255) (tables_now t).names
+  names_short = each_weaker (NameHolds (tables_now t).files) (λ name id. length name ≤ 255) (tables_now t).names
       (λ name id holds. lawful_short name holds.lawful) (let names = sound.rules.names in names.names)
 
   -- the front of a name stands for it

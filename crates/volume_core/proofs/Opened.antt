@@ -1,6 +1,6 @@
 -- Tables that were just made or mounted are sound.
-use Rattle.std.specs.Prelude.{◌≡◌, ◌*◌, ℕ, false, List, [], length, Ok, refl}
-use Rattle.std.proofs.Common.{ap, ◌∙◌, subst}
+use Rattle.std.specs.Prelude.{◌≡◌, ◌+◌, ◌-◌, ◌*◌, ℕ, false, List, [], length, Ok, refl}
+use Rattle.std.proofs.Common.{ap, ◌∙◌, subst, arith}
 use Rattle.vdisk.specs.Disk.{DiskState}
 use Rattle.vdisk.specs.declared.disk.Disk.{Ghosts}
 use Rattle.meta_log.specs.Opened.{IsOnlyRead}
@@ -8,20 +8,23 @@ use Rattle.table_rules.specs.Marks.{IsFilled}
 use Rattle.volume_inside.specs.Fresh.{fresh_tables}
 use Rattle.volume_inside.specs.Inside.{inside_at}
 use Rattle.volume_inside.specs.InsideOf.{InsideOf}
+use Rattle.volume_inside.specs.Layout.{data_clusters}
 use Rattle.volume_inside.specs.Named.{clusters_of}
 use Rattle.volume_inside.specs.Rules.{RulesHold}
 use Rattle.volume_inside.specs.Typed.{Typed}
 use Rattle.volume_inside.specs.View.{view}
 use Rattle.volume_inside.proofs.Journals.{rules_data}
-use Rattle.volume_tables.specs.Log.{log_epoch}
+use Rattle.volume_tables.specs.Log.{log_epoch, log_place}
+use Rattle.volume_tables.specs.Pending.{settled, pending_of}
+use Rattle.volume_tables.specs.Sizes.{tables_bytes}
 use Rattle.volume_tables.specs.Mount.{read_meta}
 use Rattle.volume_tables.specs.Tables.{tables_now, inside_now, view_now, states_of, disk_of, clusters_in, stopped}
 use Rattle.volume_tables.specs.Tables.{due_of, IsToldBy}
 use Rattle.volume_tables.specs.declared.tables.Tables.{Tables}
 use Rattle.volume_tables.specs.Sound.{IsSound}
-use Rattle.volume_core.specs.States.{state_at, IsSettled, IsStateOf, IsFreshState}
+use Rattle.volume_core.specs.States.{state_at, left_in, IsStateOf, IsFreshState}
 use Rattle.volume_core.proofs.Counted.{filled_counts, filled_deferred}
-use Rattle.volume_core.proofs.Settled.{settled}
+use Rattle.volume_core.proofs.Settled.{settled_pending, told_pending}
 
 fresh_view : (image : List ℕ) → view (inside_at fresh_tables image) ≡ []
 unfolding view
@@ -42,18 +45,23 @@ module _ {D : Type 0} {d : Ghosts D} (t : Tables D d) where
 module _ {D : Type 0} {d : Ghosts D} (t : Tables D d) (rules : RulesHold (clusters_in t) (tables_now t))
     (filled : IsFilled (clusters_in t) (clusters_of (tables_now t)) (states_of t)) (runs : stopped t ≡ false)
     (fresh : t.worn ≡ false) (due : due_of t ≡ 0) where
-  opened_settled : IsSettled (state_at t)
-  opened_settled = settled t (found_sound t rules filled) runs fresh due
+  opened_pending : pending_of t ≡ settled (log_epoch t.log) (log_place t.log) (left_in (state_at t))
+  opened_pending = settled_pending t (found_sound t rules filled) runs fresh due
       (filled_deferred (clusters_in t) (clusters_of (tables_now t)) (states_of t)
       (rules_data (clusters_in t) (tables_now t) rules) rules.clusters filled)
 
+  all_left : (n : ℕ) → clusters_in t ≡ n → tables_now t ≡ fresh_tables → left_in (state_at t) ≡ data_clusters n
+  all_left n clusters now =
+      let left : left_in (state_at t) ≡ data_clusters n - 0 =
+      λ i. data_clusters (clusters i) - length (inside_at (now i) (disk_of t).image).blocks in
+      omega (arith, left)
+
   pub fresh_state : (n : ℕ) → clusters_in t ≡ n → tables_now t ≡ fresh_tables → log_epoch t.log ≡ 1
-      → IsFreshState n (state_at t)
-  fresh_state n clusters now epoch = record {
+      → log_place t.log ≡ tables_bytes fresh_tables + 37 → IsFreshState n (state_at t)
+  fresh_state n clusters now epoch place = let left = all_left n clusters now in record {
     clusters = clusters;
     inside = ap (λ (q : Typed). inside_at q (disk_of t).image) now;
-    epoch = epoch;
-    settled = opened_settled;
+    pending = opened_pending ∙ (λ i. settled (epoch i) (place i) (left i));
   }
 
   pub mounted_state : (old : DiskState) → IsOnlyRead old (disk_of t) → IsToldBy t old.image
@@ -61,6 +69,6 @@ module _ {D : Type 0} {d : Ghosts D} (t : Tables D d) (rules : RulesHold (cluste
   mounted_state old read told inside = record {
     clusters = subst (λ (c : List ℕ). length c ≡ 4096 * clusters_in t) read.image t.size;
     inside = inside;
-    epoch = told.counts;
-    settled = opened_settled;
+    pending = told_pending t (log_epoch t.log) (log_place t.log) (left_in (state_at t)) old.image opened_pending refl
+        told;
   }

@@ -52,7 +52,7 @@ abbrev IsSized : List ℕ → FileBlock → Extent → Type 0
 IsSized image k e = length (block_of e image) ≡ e.valid
 
 lawful_sized : (n : ℕ) (t : Typed) (image : List ℕ) → length image ≡ 4096 * n → (k : FileBlock) (e : Extent)
-    → ExtentHolds n t k e → IsSized image k e
+    → ExtentHolds n t.files k e → IsSized image k e
 lawful_sized n t image size k e holds =
     let low = holds.in_data.within in
     let whole = length-part (4096 * e.cluster) 4096 image (omega (arith, low, size)) in
@@ -126,7 +126,7 @@ module _ (t : Typed) (image : List ℕ) (sized : Each (IsSized image) t.extents)
       ∙ ap (cut_by rest) (found_told k t.extents image sized)
       ∙ cut_by_valid rest (find pair_cmp k t.extents)
 
-  write_told : (file at count : ℕ) → write_needs (tables_told (inside_at t image)) file at count
+  pub write_told : (file at count : ℕ) → write_needs (tables_told (inside_at t image)) file at count
       ≡ write_needs t file at count
   write_told file at count = λ i. record {
     draws = false;
@@ -135,7 +135,7 @@ module _ (t : Typed) (image : List ℕ) (sized : Each (IsSized image) t.extents)
     clusters = touched at count;
   }
 
-  length_told : (file old len : ℕ) → length_needs (tables_told (inside_at t image)) file old len
+  pub length_told : (file old len : ℕ) → length_needs (tables_told (inside_at t image)) file old len
       ≡ length_needs t file old len
   length_told file old len = λ i. record {
     draws = false;
@@ -172,13 +172,13 @@ module _ {D : Type 0} {d : Ghosts D} where
       (clusters_count (tables_now t).extents (disk_of t).image)
 
   module _ (v : Mounted D d) where
-    sized : Each (IsSized (disk_of v.tables).image) (tables_now v.tables).extents
+    pub sized : Each (IsSized (disk_of v.tables).image) (tables_now v.tables).extents
     sized =
         let t = v.tables in
-        each_weaker (ExtentHolds (clusters_in t) (tables_now t)) (IsSized (disk_of t).image) (tables_now t).extents
+        each_weaker (ExtentHolds (clusters_in t) (tables_now t).files) (IsSized (disk_of t).image) (tables_now t).extents
         (lawful_sized (clusters_in v.tables) (tables_now t) (disk_of t).image t.size) v.sound.rules.extents
 
-    checkpoint_told : tables_bytes (tables_told (inside_now v.tables)) ≡ checkpoint_of v.tables
+    pub checkpoint_told : tables_bytes (tables_told (inside_now v.tables)) ≡ checkpoint_of v.tables
     checkpoint_told =
         let t = v.tables in
         let four : length (typed result_codec (log_now t.log)) ≡ 4 =

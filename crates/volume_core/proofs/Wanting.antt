@@ -90,16 +90,18 @@ module _ {D : Type 0} {d : Ghosts D} (t : Tables D d) where
   pub delete_may : (name : List ℕ) → IsWant (Delete name) (wanting t (delete_needs name))
   delete_may name = wanting_may (Delete name) (delete_needs name) refl (inr refl) (inr refl)
 
+  pub write_id_may : (name : List ℕ) (at : ℕ) (bytes : List ℕ) (file : ℕ)
+      → IsWant (Write name at bytes) (write_wants t file at bytes)
+  write_id_may name at [] file = tt
+  write_id_may name at (b ∷ bytes) file =
+      wanting_may (Write name at (b ∷ bytes)) (write_needs (tables_now t) file at (length (b ∷ bytes))) refl
+      (inl refl) (inl refl)
+
   pub write_may : (name : List ℕ) (at : ℕ) (bytes : List ℕ)
       → IsWant (Write name at bytes) (for_file (file_of t name) (λ file. write_wants t file at bytes))
   write_may name at bytes =
-      for_file_may (Write name at bytes) (file_of t name) (λ file. write_wants t file at bytes) (λ file. by file bytes)
-    where
-      by : (file : ℕ) (more : List ℕ) → IsWant (Write name at bytes) (write_wants t file at more)
-      by file [] = tt
-      by file (b ∷ more) =
-          wanting_may (Write name at bytes) (write_needs (tables_now t) file at (length (b ∷ more))) refl
-          (inl refl) (inl refl)
+      for_file_may (Write name at bytes) (file_of t name) (λ file. write_wants t file at bytes)
+      (write_id_may name at bytes)
 
   pub length_may : (name : List ℕ) (len : ℕ) → IsWant (SetLength name len) (length_wants t name len)
   length_may name len =

@@ -49,7 +49,7 @@ unfound_replied v name at bytes fault want before now refused = inl (
     (early_of name (cells_of name v) (not (is_lawful name)) fault (refused (λ cells. Err BadName))))
 
 -- an outcome that is an answer was not refused
-lost_beside_none : (at : ℕ) (bytes : List ℕ) (cells : List Cell) → IsWhole cells → lost_beside at bytes cells ≡ None
+pub lost_beside_none : (at : ℕ) (bytes : List ℕ) (cells : List Cell) → IsWhole cells → lost_beside at bytes cells ≡ None
 lost_beside_none at [] cells whole = refl
 lost_beside_none at (b ∷ bytes) cells whole = whole (is_beside at (length (b ∷ bytes))) 0
 
@@ -59,7 +59,7 @@ not_too_large true most rest None is = absurd (cc)
 not_too_large true most rest (Some fault) is = absurd (cc)
 not_too_large false most rest want is = refl
 
-was_done : (outcome : Outcome) (want : Option Fault) (before now : ℕ)
+pub was_done : (outcome : Outcome) (want : Option Fault) (before now : ℕ)
     → IsRepliedOrMemory outcome want before now reply.Done → reply.Done ≡ reply_of outcome want
 was_done outcome want before now (inl (inl own)) = own
 was_done outcome want before now (inl (inr failed)) = absurd (let is = failed.0 in cc)

@@ -16,7 +16,7 @@ use Rattle.volume_inside.specs.Rules.{next_id_of}
 use Rattle.volume_tables.specs.Log.{log_epoch}
 use Rattle.volume_tables.specs.Tables.{tables_now}
 use Rattle.volume_files.specs.Needs.{touched_at}
-use Rattle.volume_core.specs.Volumes.{clusters_in, view_now, stopped}
+use Rattle.volume_core.specs.Volumes.{tables_of, clusters_in, view_now, stopped}
 use Rattle.volume_core.specs.declared.volume.Volume.{Volume as Mounted}
 
 -- ---- what a call takes
@@ -90,11 +90,11 @@ module _ {D : Type 0} {d : Ghosts D} where
   -- beside the two of its making; a commit was refused for want of an epoch only where these reach the last one; and
   -- the settings are those of a fresh volume.
   pub record HasSpent (v : Mounted D d) (b i : ℕ) : Type 0 where
-    pub clusters : length (clusters_of (tables_now v.tables)) ≤ b
-    pub ids : next_id_of (tables_now v.tables) ≤ i + 1
-    pub epochs : log_epoch v.tables.log ≤ i + 2
-    pub worn : v.tables.worn ≡ true → last_epoch ≤ i + 2
-    pub settings : (tables_now v.tables).settings ≡ fresh_tables.settings
+    pub clusters : length (clusters_of (tables_now (tables_of v))) ≤ b
+    pub ids : next_id_of (tables_now (tables_of v)) ≤ i + 1
+    pub epochs : log_epoch (tables_of v).log ≤ i + 2
+    pub worn : (tables_of v).worn ≡ true → last_epoch ≤ i + 2
+    pub settings : (tables_now (tables_of v)).settings ≡ fresh_tables.settings
 
   -- the same of a mounted volume that has spent so much: ids and epochs are used up after 2^48 - 2 calls that change,
   -- and no sooner

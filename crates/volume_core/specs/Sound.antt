@@ -3,6 +3,7 @@ use Rattle.std.specs.Prelude.{◌≡◌, ℕ, List, [], ◌∷◌, Option, Some,
 use Rattle.std.proofs.Props.{props}
 use mathlib.Core.HLevel.{×_prop, Unit-prop, ⊥_prop}
 use Rattle.vdisk.specs.declared.disk.Disk.{Ghosts}
+use Rattle.table_records.specs.declared.jobs.JobKind.{JobKind}
 use Rattle.table_records.specs.declared.records.VolumeRecord.{VolumeRecord}
 use Rattle.table_records.specs.declared.records.FileRecord.{FileRecord}
 use Rattle.table_records.specs.declared.records.Extent.{Extent}
@@ -31,37 +32,39 @@ settings_prop s = Prim.hlevel props
 result_prop : (r : ResultRecord) → IsProp (IsResultRecord r)
 result_prop r = Prim.hlevel props
 
-records_prop : (t : Typed) → IsProp (RecordsHold t)
-records_prop t = Prim.hlevel (props, volume_record_prop, settings_prop, result_prop)
+records_prop : (volumes : List (Unit {0} × VolumeRecord)) (all : List (Unit {0} × Settings))
+    (ends : List (JobKind × ResultRecord)) → IsProp (RecordsHold volumes all ends)
+records_prop volumes all ends = Prim.hlevel (props, volume_record_prop, settings_prop, result_prop)
 
-name_prop : (t : Typed) (name : List ℕ) (id : ℕ) → IsProp (NameHolds t name id)
-name_prop t name id = Prim.hlevel props
+name_prop : (files : List (ℕ × FileRecord)) (name : List ℕ) (id : ℕ) → IsProp (NameHolds files name id)
+name_prop files name id = Prim.hlevel props
 
-once_named_prop : (t : Typed) (id : ℕ) (file : FileRecord) → IsProp (IsNamedOnce t id file)
-once_named_prop t id file = Prim.hlevel props
+once_named_prop : (names : List (List ℕ × ℕ)) (id : ℕ) (file : FileRecord) → IsProp (IsNamedOnce names id file)
+once_named_prop names id file = Prim.hlevel props
 
-names_prop : (t : Typed) → IsProp (NamesHold t)
-names_prop t = Prim.hlevel (
+names_prop : (names : List (List ℕ × ℕ)) (files : List (ℕ × FileRecord)) → IsProp (NamesHold names files)
+names_prop names files = Prim.hlevel (
   props,
-  each_prop (NameHolds t) (name_prop t) t.names,
-  each_prop (IsNamedOnce t) (once_named_prop t) t.files,
+  each_prop (NameHolds files) (name_prop files) names,
+  each_prop (IsNamedOnce names) (once_named_prop names) files,
 )
 
-file_prop : (t : Typed) (id : ℕ) (file : FileRecord) → IsProp (FileHolds t id file)
-file_prop t id file = Prim.hlevel props
+file_prop : (next id : ℕ) (file : FileRecord) → IsProp (FileHolds next id file)
+file_prop next id file = Prim.hlevel props
 
-files_prop : (t : Typed) → IsProp (FilesHold t)
-files_prop t = each_prop (FileHolds t) (file_prop t) t.files
+files_prop : (next : ℕ) (files : List (ℕ × FileRecord)) → IsProp (FilesHold next files)
+files_prop next files = each_prop (FileHolds next) (file_prop next) files
 
 lies_prop : (k : FileBlock) (e : Extent) (file : Option FileRecord) → IsProp (LiesIn k e file)
 lies_prop k e None = ⊥_prop
 lies_prop k e (Some file) = Prim.hlevel props
 
-extent_prop : (n : ℕ) (t : Typed) (k : FileBlock) (e : Extent) → IsProp (ExtentHolds n t k e)
-extent_prop n t k e = Prim.hlevel (props, lies_prop)
+extent_prop : (n : ℕ) (files : List (ℕ × FileRecord)) (k : FileBlock) (e : Extent) → IsProp (ExtentHolds n files k e)
+extent_prop n files k e = Prim.hlevel (props, lies_prop)
 
-extents_prop : (n : ℕ) (t : Typed) → IsProp (ExtentsHold n t)
-extents_prop n t = each_prop (ExtentHolds n t) (extent_prop n t) t.extents
+extents_prop : (n : ℕ) (files : List (ℕ × FileRecord)) (extents : List (FileBlock × Extent))
+    → IsProp (ExtentsHold n files extents)
+extents_prop n files extents = each_prop (ExtentHolds n files) (extent_prop n files) extents
 
 differ_prop : (x c : ℕ) → IsProp (x ≡ c → ⊥)
 differ_prop x c = Prim.hlevel props

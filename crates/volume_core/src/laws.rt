@@ -6,7 +6,7 @@ ghost use Rattle.plain_volume.specs.Volume.{IsLawfulVolume};
 ghost use Rattle.plain_volume.specs.declared.call.Call.{Call};
 ghost use Rattle.plain_volume.specs.declared.call.Fault.{Fault};
 ghost use Rattle.volume_core.specs.Bounds.{HasSpent, IsSpent};
-ghost use Rattle.volume_core.specs.States.{state_of};
+ghost use Rattle.volume_core.specs.States.{state_of, wears_at};
 ghost use Rattle.volume_core.specs.Volumes.{view_now};
 ghost use Rattle.volume_core.specs.Wants.{wants_of};
 
@@ -31,7 +31,7 @@ pub fn what_is_wanting_is_spent<D: Disk>(volume: &Volume<D>)
 
 /// A commit is refused for want of an epoch only where the last one is taken.
 pub fn volumes_wear_at_the_last_epoch<D: Disk>(volume: &Volume<D>)
-    ensures { (state_of volume.now).wears ≡ true → (state_of volume.now).epoch ≡ last_epoch }
+    ensures { wears_at (state_of volume.now) ≡ true → (state_of volume.now).pending.epoch ≡ last_epoch }
 {
     let _tables = &volume.tables;
 }

@@ -29,11 +29,11 @@ use Rattle.volume_files.specs.Writing.{IsReadable}
 use Rattle.volume_files.proofs.Extents.{exact, found_put}
 
 -- an extent that meets its rule can be read
-pub readable : (n : ℕ) (t : Typed) (k : FileBlock) (was : Option Extent) → ExtentsHold n t
+pub readable : (n : ℕ) (t : Typed) (k : FileBlock) (was : Option Extent) → ExtentsHold n t.files t.extents
     → was ≡ find pair_cmp k t.extents → IfSome was (IsReadable n)
 readable n t k None each is = tt
 readable n t k (Some e) each is =
-    let holds = each_found pair_cmp exact (ExtentHolds n t) k e t.extents (sym is) each in
+    let holds = each_found pair_cmp exact (ExtentHolds n t.files) k e t.extents (sym is) each in
     record { in_cluster = holds.in_cluster; in_data = holds.in_data }
 
 -- a file that was put is found
@@ -59,7 +59,7 @@ module _ {D : Type 0} {d : Ghosts D} (t s : Tables D d) (k : FileBlock) (grown :
       let found : find pair_cmp k (tables_now s).extents ≡ Some e = ap (λ (x : Typed). find pair_cmp k x.extents) set
       ∙ found_put k e (tables_now t).extents in
       let in_data = data_found s.clusters k e (tables_now s).extents [] s.held.0 found in
-      let holds : ExtentHolds t.clusters q k e = record {
+      let holds : ExtentHolds t.clusters q.files k e = record {
         in_file = subst (LiesIn k e) (sym (found_file k.0 grown (tables_now t).files)) reach;
         some_bytes = some;
         in_cluster = whole;

@@ -27,7 +27,7 @@ use Rattle.volume_tables.specs.declared.tables.Tables.{Tables}
 use Rattle.volume_tables.proofs.Answers.{as_true}
 use Rattle.volume_tables.proofs.Deferring.{rest_used, held_used_once}
 use Rattle.volume_tables.proofs.Leaving.{found_used}
-use Rattle.volume_tables.specs.Stages.{clusters_known}
+use Rattle.volume_tables.specs.Stages.{accounted}
 
 -- ---- states
 
@@ -89,11 +89,11 @@ module _ {D : Type 0} {d : Ghosts D} (t u : Tables D d) where
   pub extents_in_order : T (is_sorted pair_cmp (tables_now t).extents)
   extents_in_order = sorted_typed extent_codec (log_now t.log) (as_true t.contents.sorted)
 
-  -- the extents that pass a test are dropped, and their clusters deferred
+  -- the extents that pass a test are dropped, and their clusters deferred: none becomes free
   pub dropped_known : (test : FileBlock → Bool) → tables_now u ≡ keep_extents (λ k. not (test k)) (tables_now t)
       → states_of u ≡ all_deferred (first_data_cluster t.clusters) (where_key pair_cmp test (tables_now t).extents)
       (states_of t)
-      → clusters_known u ≡ clusters_known t
+      → (free_in (states_of u) ≡ free_in (states_of t)) × (accounted u ≡ accounted t)
   dropped_known test now states =
       let es = (tables_now t).extents in
       let q : Typed = keep_extents (λ k. not (test k)) (tables_now t) in
@@ -108,7 +108,7 @@ module _ {D : Type 0} {d : Ghosts D} (t u : Tables D d) where
       ap (λ (x : Typed). length (clusters_of x)) now ∙ length_named q in
       let named : length (clusters_of (tables_now t)) ≡ length es + length (base_clusters (tables_now t)) =
       length_named (tables_now t) in
-      omega (arith, free, deferred, names, named, length_parts test es)
+      (free, omega (arith, free, deferred, names, named, length_parts test es))
 
   -- an extent is set anew over its own cluster
   pub same_known : (k : FileBlock) (e o : Extent) → find pair_cmp k (tables_now t).extents ≡ Some o
@@ -116,7 +116,7 @@ module _ {D : Type 0} {d : Ghosts D} (t u : Tables D d) where
       → tables_now u ≡ with_extent k e (tables_now t)
       → states_of u ≡ with_replaced t.clusters (find pair_cmp k (tables_now t).extents) e.cluster
       (used_at t.clusters e.cluster (states_of t))
-      → clusters_known u ≡ clusters_known t
+      → (free_in (states_of u) ≡ free_in (states_of t)) × (accounted u ≡ accounted t)
   same_known k e o found same now states =
       let es = (tables_now t).extents in
       let used = found_used t.clusters k o (states_of t) (typed_of (log_now t.log)) t.held t.spaces found in
@@ -143,4 +143,4 @@ module _ {D : Type 0} {d : Ghosts D} (t u : Tables D d) where
       let free : free_in (states_of u) ≡ free_in (states_of t) = ap (λ (xs : List State). free_in xs) kept in
       let deferred : deferred_in (states_of u) ≡ deferred_in (states_of t) =
       ap (λ (xs : List State). deferred_in xs) kept in
-      omega (arith, free, deferred, names, named, long)
+      (free, omega (arith, free, deferred, names, named, long))

@@ -17,7 +17,7 @@ use Rattle.table_records.specs.declared.records.Extent.{Extent}
 use Rattle.volume_inside.specs.Changes.{with_file}
 use Rattle.volume_inside.specs.Entries.{each_found}
 use Rattle.volume_inside.specs.Inside.{Inside, inside_at, cluster_bytes, block_of}
-use Rattle.volume_inside.specs.Rules.{FileHolds, LiesIn, ExtentHolds, RulesHold}
+use Rattle.volume_inside.specs.Rules.{next_id_of, FileHolds, LiesIn, ExtentHolds, RulesHold}
 use Rattle.volume_inside.specs.Typed.{Typed, FileBlock}
 use Rattle.volume_inside.specs.View.{cell, cells, cells_or_none, file_cells, view}
 use Rattle.volume_inside.proofs.Cells.{map_same, length-cells}
@@ -86,8 +86,8 @@ module _ (t : Typed) (image : List ℕ) (id len : ℕ) (c : Option Extent)
 
 module _ (n : ℕ) (t : Typed) (image : List ℕ) (rules : RulesHold n t) (id len : ℕ) (file : FileRecord)
     (found : find nat_cmp id t.files ≡ Some file) where
-  holds : FileHolds t id file
-  holds = each_found nat_cmp nat_cmp-IsAntisymmetric (FileHolds t) id file t.files found rules.files
+  holds : FileHolds (next_id_of t) id file
+  holds = each_found nat_cmp nat_cmp-IsAntisymmetric (FileHolds (next_id_of t)) id file t.files found rules.files
 
   -- behind the end of a file all bytes of its blocks are 0
   beyond : (p : ℕ) → file.length ≤ p → byte_at (inside_at t image) id p ≡ 0
@@ -96,7 +96,7 @@ module _ (n : ℕ) (t : Typed) (image : List ℕ) (rules : RulesHold n t) (id le
       by : (o : Option Extent) → find pair_cmp (id, p / 4096) t.extents ≡ o → byte_at (inside_at t image) id p ≡ 0
       by None none = no_block (id, p / 4096) t image (p % 4096) none
       by (Some e) at =
-          let one = each_found pair_cmp exact_blocks (ExtentHolds n t) (id, p / 4096) e t.extents at rules.extents in
+          let one = each_found pair_cmp exact_blocks (ExtentHolds n t.files) (id, p / 4096) e t.extents at rules.extents in
           let lies : 4096 * (p / 4096) + e.valid ≤ file.length = subst (LiesIn (id, p / 4096) e) found one.in_file in
           of_block (id, p / 4096) t image e (p % 4096) at
           ∙ get_or_past (block_of e image) (p % 4096) 0
@@ -177,7 +177,7 @@ module _ (n : ℕ) (t : Typed) (image : List ℕ) (rules : RulesHold n t) (id le
         by : (o : Option FileRecord) → find nat_cmp x t.files ≡ o → cells_or_none j x o ≡ cells_or_none i x o
         by None is = refl
         by (Some f) is =
-            let one = each_found nat_cmp nat_cmp-IsAntisymmetric (FileHolds t) x f t.files is rules.files in
+            let one = each_found nat_cmp nat_cmp-IsAntisymmetric (FileHolds (next_id_of t)) x f t.files is rules.files in
             map_same (cell j x f) (cell i x f) 0 f.length
             (λ p low high. cell_byte j x p f one.no_cover ∙ ap Byte (same x p (λ e. absurd (differ e)))
             ∙ sym (cell_byte i x p f one.no_cover))

@@ -19,10 +19,10 @@ use Rattle.table_records.specs.declared.records.Extent.{Extent}
 use Rattle.volume_inside.specs.Changes.{with_file, keep_extents}
 use Rattle.volume_inside.specs.Entries.{Each, each_found}
 use Rattle.volume_inside.specs.Layout.{IsDataCluster}
-use Rattle.volume_inside.specs.Rules.{id_after, FileHolds, LiesIn, ExtentHolds, RulesHold}
+use Rattle.volume_inside.specs.Rules.{id_after, next_id_of, FileHolds, LiesIn, ExtentHolds, RulesHold}
 use Rattle.volume_inside.specs.Space.{IsSpaced}
 use Rattle.volume_inside.specs.Typed.{Typed, FileBlock}
-use Rattle.volume_inside.proofs.Changed.{first_true, second_true}
+use Rattle.groundwork.proofs.Bools.{first_true, second_true}
 use Rattle.volume_inside.proofs.Lawfuls.{rules_with_extent, rules_keep_extents, rules_with_file}
 use Rattle.volume_inside.proofs.Spaces.{spaced_same}
 use Rattle.volume_files.specs.Lengths.{cut_extent, with_extent_if, lies_behind, cut_if, resized_in}
@@ -143,6 +143,16 @@ cut_is_cut rest (Some o) e is = by (nat_lt 0 rest && nat_lt rest o.valid) is
     by : (b : Bool) → cond b (Some (record { cluster = o.cluster; valid = rest })) None ≡ Some e → b ≡ true
     by true at = refl
     by false at = absurd (let clash : None ≡ Some e = at in cc)
+
+pub uncut_is_not : (rest : ℕ) (was : Option Extent) → cut_extent rest was ≡ None → is_cut rest was ≡ false
+uncut_is_not rest None is = refl
+uncut_is_not rest (Some o) is = by (nat_lt 0 rest && nat_lt rest o.valid) is
+  where
+    by : (b : Bool) → ◌≡◌ {A = Option Extent} (cond b (Some (record { cluster = o.cluster; valid = rest })) None) None
+        → b ≡ false
+    by true at =
+        absurd (let e : Extent = record { cluster = o.cluster; valid = rest } in let clash : Some e ≡ None = at in cc)
+    by false at = refl
 
 -- ---- entries in order
 
@@ -267,7 +277,7 @@ module _ (id len : ℕ) (t : Typed) where
     rules_end None is = rules
     rules_end (Some x) is =
         let cut = cut_means (len % 4096) (find pair_cmp key t.extents) x is in
-        let old = each_found pair_cmp exact_blocks (ExtentHolds n t) key cut.old t.extents cut.there rules.extents in
+        let old = each_found pair_cmp exact_blocks (ExtentHolds n t.files) key cut.old t.extents cut.there rules.extents in
         let none : IsSpaced 0 [] t t = record {
           free_stored = λ k at. absurd (omega (arith, at.within));
           free_now = λ k at. absurd (omega (arith, at.within));
@@ -296,7 +306,7 @@ module _ (id len : ℕ) (t : Typed) where
         → (file : FileRecord) → find nat_cmp id t.files ≡ Some file → len ≤ MOST_BYTES_OF_A_FILE
         → RulesHold n (with_file id (record file { length = len }) q)
     resized_rules q files volume kept order ends file found short =
-        let holds = each_found nat_cmp nat_cmp-IsAntisymmetric (FileHolds t) id file t.files found rules.files in
+        let holds = each_found nat_cmp nat_cmp-IsAntisymmetric (FileHolds (next_id_of t)) id file t.files found rules.files in
         let there : find nat_cmp id q.files ≡ Some file =
         ap (λ (fs : List (ℕ × FileRecord)). find nat_cmp id fs) files ∙ found in
         rules_with_file n q kept id file (record file { length = len }) there
@@ -310,7 +320,7 @@ module _ (id len : ℕ) (t : Typed) where
         })
         (each_by_find (λ k e. k.0 ≡ id → 4096 * k.1 + e.valid ≤ len) q.extents order
         (λ k e at same. ends k e at (each_found pair_cmp exact_blocks
-        (ExtentHolds n q) k e q.extents at kept.extents).in_cluster same))
+        (ExtentHolds n q.files) k e q.extents at kept.extents).in_cluster same))
 
     -- THE RULES of the tables once a file has another length
     pub rules_resized : (file : FileRecord) → find nat_cmp id t.files ≡ Some file → len ≤ MOST_BYTES_OF_A_FILE
@@ -320,7 +330,7 @@ module _ (id len : ℕ) (t : Typed) where
         grown : (k : FileBlock) (e : Extent) → file.length ≤ len → find pair_cmp k t.extents ≡ Some e → k.0 ≡ id
             → 4096 * k.1 + e.valid ≤ len
         grown k e longer at same =
-            let old = each_found pair_cmp exact_blocks (ExtentHolds n t) k e t.extents at rules.extents in
+            let old = each_found pair_cmp exact_blocks (ExtentHolds n t.files) k e t.extents at rules.extents in
             let mine : LiesIn k e (Some file) =
             subst (LiesIn k e) (ap (λ (x : ℕ). find nat_cmp x t.files) same ∙ found) old.in_file in
             omega (arith, mine, longer)

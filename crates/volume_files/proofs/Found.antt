@@ -18,7 +18,8 @@ use Rattle.volume_inside.specs.Entries.{each_found}
 use Rattle.volume_inside.specs.Rules.{NameHolds, RulesHold}
 use Rattle.volume_inside.specs.View.{cells_or_none, view}
 use Rattle.volume_inside.proofs.Cells.{length-cells}
-use Rattle.volume_inside.proofs.Changed.{first_true, second_true, view_at_name, view_without_name}
+use Rattle.volume_inside.proofs.Changed.{view_at_name, view_without_name}
+use Rattle.groundwork.proofs.Bools.{first_true, second_true}
 use Rattle.volume_inside.proofs.Views.{length-named}
 use Rattle.volume_tables.proofs.Answers.{as_true}
 use Rattle.volume_tables.specs.Log.{log_now}
@@ -59,7 +60,7 @@ module _ {D : Type 0} {d : Ghosts D} (t : Tables D d) where
       (found : find bytes_cmp name (tables_now t).names ≡ Some id) where
     -- the file of a name is there
     pub file_is_there : IsSome (find nat_cmp id (tables_now t).files)
-    file_is_there = (each_found bytes_cmp exact_bytes (NameHolds (tables_now t)) name id (tables_now t).names found rules.names.names).names_file
+    file_is_there = (each_found bytes_cmp exact_bytes (NameHolds (tables_now t).files) name id (tables_now t).names found rules.names.names).names_file
 
     pub is_file_of : (file : FileRecord) → is_lawful name ≡ true → find nat_cmp id (tables_now t).files ≡ Some file → IsFileOf t name id file
     is_file_of file lawful there = record {

@@ -141,8 +141,8 @@ module _ (n : ℕ) (t : Typed) (rules : RulesHold n t) (image name : List ℕ) (
 
 module _ {D : Type 0} {d : Ghosts D} (t m s : Tables D d) (name : List ℕ) (id : ℕ) (file : FileRecord)
     (is : IsFileOf t name id file)
-    (now : tables_now m ≡ tables_now t) (inside : inside_now m ≡ inside_now t) (sound : IsSound m) (most : ℕ)
-    (staged : Stages most m s)
+    (now : tables_now m ≡ tables_now t) (inside : inside_now m ≡ inside_now t) (sound : IsSound m) (bytes : ℕ)
+    (staged : Stages bytes m s)
     (changed : tables_now s ≡ without_name name id (tables_now m)) where
   named : find bytes_cmp name (tables_now m).names ≡ Some id
   named = ap (λ (q : Typed). find bytes_cmp name q.names) now ∙ is.named
@@ -166,23 +166,4 @@ module _ {D : Type 0} {d : Ghosts D} (t m s : Tables D d) (name : List ℕ) (id 
         (only_name name) (only_file id) (only_blocks id));
     counted = λ run. staged.counts ∙ sound.counted (sym staged.running ∙ run)
         ∙ ap (λ (k : ℕ). data_clusters k) (sym staged.leaves.clusters);
-  }
-
--- ---- records that are dropped
-
-module _ {D : Type 0} {d : Ghosts D} (a b : Tables D d) where
-  -- a call that leaves the extents
-  pub quiet_stages : (most : ℕ) → Leaves a b → (disk_of b).image ≡ (disk_of a).image → stopped b ≡ stopped a
-      → staged_of b ≤ staged_of a + most
-      → states_of b ≡ states_of a → (q : Typed) → tables_now b ≡ q → clusters_of q ≡ clusters_of (tables_now a)
-      → Stages most a b
-  quiet_stages most leaves image running few states q is same = record {
-    leaves = leaves;
-    image = image;
-    running = running;
-    staged = few;
-    counts =
-        let named : clusters_of (tables_now b) ≡ clusters_of (tables_now a) = ap (λ (x : Typed). clusters_of x) is
-        ∙ same in
-        (λ i. free_in (states i) + deferred_in (states i) + length (named i));
   }

@@ -9,6 +9,7 @@ pub mod Touched
 pub mod NewFile
 pub mod ReadBytes
 pub mod Counted
+pub mod Pending
 pub mod CutExtents
 pub mod CutCells
 pub mod Resized

@@ -25,7 +25,7 @@ use Rattle.table_records.specs.declared.records.VolumeRecord.{VolumeRecord}
 use Rattle.table_records.specs.Changes.{is_in_range}
 use Rattle.table_records.specs.declared.records.FileRecord.{FileRecord}
 use Rattle.volume_inside.specs.Changes.{with_file as file_put, keep_files}
-use Rattle.volume_inside.specs.Entries.{Each}
+use Rattle.volume_inside.specs.Entries.{Each, each_weaker}
 use Rattle.volume_inside.specs.Inside.{Inside, inside_at}
 use Rattle.volume_inside.specs.Layout.{data_clusters}
 use Rattle.volume_inside.specs.Named.{clusters_of}
@@ -68,11 +68,6 @@ module _ (id : ℕ) (file : FileRecord) where
       (lower_kept e.0 low.0)
       ∙ ap (λ (es : List (ℕ × FileRecord)). e ∷ es) (taken_back files low.1)
 
-ids_below : (t : Typed) (files : List (ℕ × FileRecord)) → Each (FileHolds t) files
-    → Each (λ x f. x < next_id_of t) files
-ids_below t [] each = tt
-ids_below t (e ∷ files) each = (each.0.drawn, ids_below t files each.1)
-
 module _ (n : ℕ) (t : Typed) (rules : RulesHold n t) where
   -- the tables as they were, once the new record is dropped
   pub file_taken_back : (id : ℕ) (file : FileRecord) → id ≡ next_id_of t
@@ -80,7 +75,7 @@ module _ (n : ℕ) (t : Typed) (rules : RulesHold n t) where
   file_taken_back id file next =
       ap (λ (files : List (ℕ × FileRecord)). record t { files = files })
       (taken_back id file t.files (subst (λ (k : ℕ). Each (λ x f. x < k) t.files) (sym next)
-      (ids_below t t.files rules.files)))
+      (each_weaker (FileHolds (next_id_of t)) (λ x f. x < next_id_of t) t.files (λ x f h. h.drawn) rules.files)))
 
   -- ---- the view
 
@@ -100,12 +95,12 @@ module _ (n : ℕ) (t : Typed) (rules : RulesHold n t) where
         ∙ ap (λ (r : Ordering). cond (is_eq r) (Some empty_file) (find nat_cmp (next_id_of t) t.files))
         (tied_itself nat_cmp_total (next_id_of t)))
 
-    others : (names : List (List ℕ × ℕ)) → Each (NameHolds t) names
+    others : (names : List (List ℕ × ℕ)) → Each (NameHolds t.files) names
         → OthersSame (inside_at t image) (inside_at (with_new name t) image) name names
     others [] each = tt
     others (e ∷ names) each = (
       λ differ.
-          same_cells e.1 (drawn_id t e.1 rules.files each.0.names_file),
+          same_cells e.1 (drawn_id (next_id_of t) e.1 t.files rules.files each.0.names_file),
       others names each.1,
     )
 

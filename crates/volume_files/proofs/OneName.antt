@@ -1,7 +1,7 @@
 -- One name is dropped, as the range from it to the next one.
-use Rattle.std.specs.Prelude.{◌≡◌, ◌≤◌, ℕ, Bool, true, false, cond, not, ◌&&◌, T, List, [], ◌∷◌, length}
+use Rattle.std.specs.Prelude.{◌≡◌, ◌≤◌, ◌+◌, ℕ, Bool, true, false, cond, not, ◌&&◌, T, List, [], ◌∷◌, length}
 use Rattle.std.specs.Prelude.{Option, Some, None, refl}
-use Rattle.std.proofs.Common.{◌∙◌, ap, sym, subst}
+use Rattle.std.proofs.Common.{◌∙◌, ap, sym, subst, arith}
 use Rattle.std.specs.declared.cmp.Ordering.{Ordering}
 use Rattle.std.specs.declared.cmp.Ordering.TheVariants.{Less, Equal, Greater}
 use Rattle.std.specs.Ordering.{is_eq, is_le, is_lt, ordering_reverse}
@@ -16,8 +16,10 @@ use Rattle.volume_inside.specs.Changes.{DropsOnly}
 use Rattle.volume_inside.specs.Entries.{Each, each_weaker}
 use Rattle.volume_inside.specs.Rules.{NameHolds}
 use Rattle.volume_inside.specs.Typed.{Typed}
-use Rattle.volume_inside.proofs.Changed.{first_true, second_true}
+use Rattle.groundwork.proofs.Bools.{first_true, second_true}
+use Rattle.volume_tables.specs.Dropped.{end_bytes}
 use Rattle.volume_files.specs.Names.{is_other, AreShort}
+use Rattle.volume_files.specs.Needs.{name_bytes, drop_bytes}
 use Rattle.volume_files.proofs.Found.{lawful_short}
 
 abbrev Names : Type 0
@@ -42,8 +44,8 @@ only_name name = record {
     by other Greater is differ = refl
 
 -- names of tables that meet the rules are short
-pub short_names : (t : Typed) (names : Names) → Each (NameHolds t) names → AreShort names
-short_names t names each = each_weaker (NameHolds t) (λ name id. length name ≤ 255) names
+pub short_names : (t : Typed) (names : Names) → Each (NameHolds t.files) names → AreShort names
+short_names t names each = each_weaker (NameHolds t.files) (λ name id. length name ≤ 255) names
     (λ name id h. lawful_short name h.lawful) each
 
 -- the next name is one of them
@@ -58,6 +60,21 @@ next_is_short name next id (e ∷ names) short found =
         → (next_in bytes_cmp name names ≡ Some (next, id) → length next ≤ 255) → length next ≤ 255
     by true at later = (let same : e ≡ (next, id) = cc in subst (λ (p : List ℕ × ℕ). length p.0 ≤ 255) same short.0)
     by false at later = later at
+
+-- so the record of a dropped name is short
+pub drop_is_short : (name : List ℕ) (names : Names) → AreShort names → drop_bytes names name ≤ 262 + length name
+drop_is_short name names short = by (next_in bytes_cmp name names) refl
+  where
+    by : (o : Option (List ℕ × ℕ)) → next_in bytes_cmp name names ≡ o
+        → 7 + (length name + name_bytes o) ≤ 262 + length name
+    by None is = omega arith
+    by (Some e) is = let few = next_is_short name e.0 e.1 names short is in omega (arith, few)
+
+-- the end of a range that is the next name
+pub end_is_next : {V : Type 0} (to : Option (List ℕ)) (next : Option (List ℕ × V)) → to ≡ option_map (λ p. p.0) next
+    → end_bytes (λ other. 1 + length other) to ≡ 1 + name_bytes next
+end_is_next to None is = ap (λ (o : Option (List ℕ)). end_bytes (λ other. 1 + length other) o) is
+end_is_next to (Some e) is = ap (λ (o : Option (List ℕ)). end_bytes (λ other. 1 + length other) o) is
 
 module _ (name : List ℕ) where
   -- no name between this one and the end

@@ -26,7 +26,8 @@ use Rattle.volume_inside.specs.Layout.{data_clusters}
 use Rattle.volume_inside.specs.Rules.{RulesHold}
 use Rattle.volume_inside.specs.Typed.{Typed}
 use Rattle.volume_inside.specs.View.{file_cells, view}
-use Rattle.volume_inside.proofs.Changed.{OthersSame, first_true, second_true, view_keeps, view_puts, view_at_name}
+use Rattle.volume_inside.proofs.Changed.{OthersSame, view_keeps, view_puts, view_at_name}
+use Rattle.groundwork.proofs.Bools.{first_true, second_true}
 use Rattle.volume_inside.proofs.Changed.{view_without_name}
 use Rattle.volume_inside.proofs.Removed.{rules_renamed}
 use Rattle.volume_inside.proofs.Views.{sorted-named}
@@ -38,15 +39,8 @@ use Rattle.volume_tables.specs.Stages.{Stages}
 use Rattle.volume_files.specs.Names.{is_other, with_renamed, IsRenaming, IsRefused}
 use Rattle.volume_files.proofs.Found.{names_in_order}
 use Rattle.volume_files.proofs.OneName.{only_name}
-
-is_less : (r : Ordering) → T (is_lt r) → r ≡ Less
-is_less Less p = refl
-is_less Equal p = absurd p
-is_less Greater p = absurd p
-
-both_true : (a b : Bool) → T a → T b → T (a && b)
-both_true true b p q = q
-both_true false b p q = p
+use Rattle.groundwork.proofs.Bools.{both_true}
+use Rattle.groundwork.proofs.Orders.{is_less}
 
 -- ---- a name is put, and another one dropped, in any order
 
@@ -184,8 +178,8 @@ module _ {D : Type 0} {d : Ghosts D} (t : Tables D d) (from to : List ℕ) where
 
 module _ {D : Type 0} {d : Ghosts D} (t m p : Tables D d) (from to : List ℕ) (id : ℕ)
     (is : IsRenaming (tables_now t) from to id)
-    (now : tables_now m ≡ tables_now t) (inside : inside_now m ≡ inside_now t) (sound : IsSound m) (most : ℕ)
-    (staged : Stages most m p)
+    (now : tables_now m ≡ tables_now t) (inside : inside_now m ≡ inside_now t) (sound : IsSound m) (bytes : ℕ)
+    (staged : Stages bytes m p)
     (r : Result (Unit {0}) Fault) (ok : OnOk r (tables_now p ≡ with_renamed from to id (tables_now m)))
     (err : OnErr r (tables_now p ≡ tables_now m)) where
   is_still : IsRenaming (tables_now m) from to id

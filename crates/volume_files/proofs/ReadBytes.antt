@@ -17,7 +17,7 @@ use Rattle.volume_inside.specs.Typed.{Typed, FileBlock}
 use Rattle.volume_inside.specs.Bases.{base_cell, uncovered_cell}
 use Rattle.volume_inside.specs.Entries.{each_found}
 use Rattle.volume_inside.specs.Inside.{Inside, inside_at, block_of, blocks_of, cluster_bytes}
-use Rattle.volume_inside.specs.Rules.{FileHolds, ExtentHolds, ExtentsHold, RulesHold}
+use Rattle.volume_inside.specs.Rules.{next_id_of, FileHolds, ExtentHolds, ExtentsHold, RulesHold}
 use Rattle.volume_inside.specs.View.{cell, cell_in, cells, cells_or_none, file_cells}
 use Rattle.volume_files.specs.Reads.{byte_in, byte_at}
 use Rattle.volume_files.specs.Stretches.{HasBytes}
@@ -88,7 +88,7 @@ module _ (n : ℕ) (t : Typed) (image : List ℕ) (rules : RulesHold n t) (id at
           → at + count ≤ length (cells_or_none (inside_at t image) id o) → at + count ≤ 1073741824
       by None is within = omega (arith, within)
       by (Some file) is within =
-          let holds = each_found nat_cmp nat_cmp-IsAntisymmetric (FileHolds t) id file t.files is rules.files in
+          let holds = each_found nat_cmp nat_cmp-IsAntisymmetric (FileHolds (next_id_of t)) id file t.files is rules.files in
           let long = length-map-range_with_len (cell (inside_at t image) id file) 0 file.length in
           omega (arith, within, long, holds.short)
 
@@ -109,7 +109,7 @@ module _ (n : ℕ) (t : Typed) (image : List ℕ) (rules : RulesHold n t) (id at
           empty [] e = refl
           empty (x ∷ xs) e = absurd (omega (arith, e))
       by (Some file) is within =
-          let holds = each_found nat_cmp nat_cmp-IsAntisymmetric (FileHolds t) id file t.files is rules.files in
+          let holds = each_found nat_cmp nat_cmp-IsAntisymmetric (FileHolds (next_id_of t)) id file t.files is rules.files in
           let size = length-map-range_with_len (cell (inside_at t image) id file) 0 file.length in
           all_read (inside_at t image) id at count file holds.no_cover (omega (arith, within, size)) out long read
 
@@ -166,9 +166,9 @@ zero_byte t image k (Some e) o is behind = unnamed_byte t image k e o (sym is) b
 
 -- what the rules say of an extent
 pub extent_found : (n : ℕ) (t : Typed) (k : FileBlock) (e : Extent) → find pair_cmp k t.extents ≡ Some e
-    → ExtentsHold n t → ExtentHolds n t k e
+    → ExtentsHold n t.files t.extents → ExtentHolds n t.files k e
 extent_found n t k e found hold =
-    each_found pair_cmp (exact_pairs nat_cmp nat_cmp exact_unsigned exact_unsigned) (ExtentHolds n t) k e t.extents
+    each_found pair_cmp (exact_pairs nat_cmp nat_cmp exact_unsigned exact_unsigned) (ExtentHolds n t.files) k e t.extents
     found hold
 
 -- bytes of a file from a place on lie on the disk from another place on
@@ -206,7 +206,7 @@ module _ (t : Typed) (image : List ℕ) (file place : ℕ) (e : Extent) (fits : 
 -- a stretch goes on with the block whose extent names what lies behind it
 pub next_beside : (n : ℕ) (t : Typed) (image : List ℕ) (file place start count beside more : ℕ) (next : Option Extent)
     → next ≡ find pair_cmp (file, (place + count) / 4096) t.extents
-    → IsSomeAnd next (λ e. (e.valid ≡ beside) × (4096 * e.cluster ≡ start + count)) → ExtentsHold n t
+    → IsSomeAnd next (λ e. (e.valid ≡ beside) × (4096 * e.cluster ≡ start + count)) → ExtentsHold n t.files t.extents
     → (place + count) % 4096 ≡ 0 → more ≤ beside → Lie (inside_at t image) image file place start count
     → (beside ≤ 4096) × (start + (count + more) ≤ 4096 * n)
     × Lie (inside_at t image) image file place start (count + more)

@@ -18,7 +18,7 @@ use Rattle.table_records.specs.declared.records.FileRecord.{FileRecord}
 use Rattle.volume_inside.specs.Entries.{each_found}
 use Rattle.volume_inside.specs.Inside.{Inside, inside_at}
 use Rattle.volume_inside.specs.Layout.{data_clusters}
-use Rattle.volume_inside.specs.Rules.{id_after, IsVolumeRecord, FileHolds, RulesHold}
+use Rattle.volume_inside.specs.Rules.{id_after, next_id_of, IsVolumeRecord, FileHolds, RulesHold}
 use Rattle.volume_inside.specs.Typed.{Typed}
 use Rattle.volume_inside.specs.View.{file_cells, view}
 use Rattle.volume_tables.specs.Tables.{tables_now, inside_now, view_now, disk_of, clusters_in, stopped}
@@ -27,6 +27,8 @@ use Rattle.volume_tables.specs.Sound.{IsSound}
 use Rattle.volume_tables.specs.Stages.{Stages}
 use Rattle.volume_files.specs.Found.{IsFileOf}
 use Rattle.volume_files.specs.Lengths.{resized_in}
+use Rattle.volume_files.specs.Needs.{length_needs}
+use Rattle.volume_files.proofs.Pending.{found_same}
 use Rattle.volume_files.proofs.Counted.{extents_in_order}
 use Rattle.volume_files.proofs.CutCells.{view_resized}
 use Rattle.volume_files.proofs.CutExtents.{rules_resized}
@@ -36,12 +38,21 @@ use Rattle.volume_files.proofs.Found.{names_in_order}
 pub small_id : (n : ℕ) (t : Typed) → RulesHold n t → (id : ℕ) (file : FileRecord)
     → find nat_cmp id t.files ≡ Some file → id < 2 ^ 48
 small_id n t rules id file found =
-    let holds = each_found nat_cmp nat_cmp-IsAntisymmetric (FileHolds t) id file t.files found rules.files in
+    let holds = each_found nat_cmp nat_cmp-IsAntisymmetric (FileHolds (next_id_of t)) id file t.files found rules.files in
     by (find single_cmp tt t.volume) rules.records.volume holds.drawn
   where
     by : (o : Option VolumeRecord) → IsSomeAnd o IsVolumeRecord → id < id_after o → id < 2 ^ 48
     by None some drawn = absurd (omega (arith, drawn))
     by (Some v) some drawn = (let last = some.last_id in omega (arith, drawn, last))
+
+-- the file of a name is one, and so is what another length of it stages
+pub records_same : {D : Type 0} {d : Ghosts D} (t : Tables D d) (name : List ℕ) (len a b : ℕ) (f g : FileRecord)
+    → IsFileOf t name a f → IsFileOf t name b g
+    → (length_needs (tables_now t) a f.length len).records ≡ (length_needs (tables_now t) b g.length len).records
+records_same t name len a b f g one two =
+    let id : a ≡ b = found_same (sym one.named ∙ two.named) in
+    let file : f ≡ g = found_same (sym one.there ∙ ap (λ (x : ℕ). find nat_cmp x (tables_now t).files) id ∙ two.there) in
+    λ i. (length_needs (tables_now t) (id i) (file i).length len).records
 
 module _ {D : Type 0} {d : Ghosts D} (t : Tables D d) (name : List ℕ) (len id : ℕ) (file : FileRecord)
     (is : IsFileOf t name id file) where
@@ -58,7 +69,7 @@ module _ {D : Type 0} {d : Ghosts D} (t : Tables D d) (name : List ℕ) (len id 
   -- what is staged where there is room
   module _ (u s : Tables D d) (now : tables_now u ≡ tables_now t) (inside : inside_now u ≡ inside_now t)
       (sound : IsSound u)
-      (runs : stopped u ≡ false) (few : len ≤ MOST_BYTES_OF_A_FILE) (most : ℕ) (staged : Stages most u s)
+      (runs : stopped u ≡ false) (few : len ≤ MOST_BYTES_OF_A_FILE) (bytes : ℕ) (staged : Stages bytes u s)
       (changed : tables_now s ≡ resized_in id file len (tables_now u)) where
     there : find nat_cmp id (tables_now u).files ≡ Some file
     there = ap (λ (q : Typed). find nat_cmp id q.files) now ∙ is.there

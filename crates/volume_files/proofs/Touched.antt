@@ -19,7 +19,7 @@ use Rattle.volume_inside.specs.Inside.{Inside, inside_at, block_of, blocks_of}
 use Rattle.volume_inside.specs.Typed.{Typed, FileBlock}
 use Rattle.volume_inside.specs.Changes.{with_extent, with_file, with_block}
 use Rattle.volume_inside.specs.View.{cell, cell_in}
-use Rattle.volume_inside.specs.Rules.{RulesHold, FileHolds}
+use Rattle.volume_inside.specs.Rules.{next_id_of, RulesHold, FileHolds}
 use Rattle.volume_inside.proofs.Blocks.{cell_of_block, cell_of_another_block, cell_of_another_file}
 use Rattle.volume_tables.specs.Tables.{new_bytes}
 use Rattle.volume_files.specs.Needs.{missing, one_if_none}
@@ -176,7 +176,7 @@ module _ (file index at : ℕ) (bytes : List ℕ) (grown : FileRecord) (was : Op
 pub put_covers : (n id : ℕ) (file : FileRecord) (t : Typed) → RulesHold n (with_file id file t) → file.covers ≡ 0
 put_covers n id file t rules =
     let u = with_file id file t in
-    let holds = each_found nat_cmp nat_cmp-IsAntisymmetric (FileHolds u) id file u.files (found_file id file t.files)
+    let holds = each_found nat_cmp nat_cmp-IsAntisymmetric (FileHolds (next_id_of u)) id file u.files (found_file id file t.files)
     rules.files in
     holds.no_cover
 

@@ -1,6 +1,6 @@
 -- A file that bytes were written into.
 use Rattle.std.specs.Prelude.{◌≡◌, ◌≤◌, ◌<◌, ◌+◌, ◌*◌, ◌/◌, ◌%◌, ℕ, Bool, true, false, cond, List, [], ◌∷◌}
-use Rattle.std.specs.Prelude.{length, get_or, max, Option, Some, None, IsSome, refl}
+use Rattle.std.specs.Prelude.{length, get_or, max, Option, Some, None, IsSome, Result, Ok, Err, OnErr, refl}
 use Rattle.std.proofs.Common.{sym, ◌∙◌, ap, subst, arith, eqb-true}
 use Rattle.std.proofs.lemmas.List.{get_or_past, length-take}
 use Rattle.std.specs.Ordering.{nat_cmp, eq_by_cmp}
@@ -19,26 +19,31 @@ use Rattle.volume_inside.specs.Layout.{data_clusters}
 use Rattle.volume_inside.specs.Typed.{Typed, FileBlock}
 use Rattle.volume_inside.specs.Changes.{with_file}
 use Rattle.volume_inside.specs.View.{cell, cell_in, cells_or_none, file_cells}
-use Rattle.volume_inside.specs.Rules.{RulesHold, FileHolds, ExtentHolds, LiesIn}
+use Rattle.volume_inside.specs.Rules.{next_id_of, RulesHold, FileHolds, ExtentHolds, LiesIn}
 use Rattle.volume_inside.proofs.Cells.{map_same}
 use Rattle.volume_inside.proofs.Lawfuls.{rules_with_file}
 use Rattle.volume_tables.specs.Tables.{tables_now, inside_now, disk_of, states_of, stopped}
 use Rattle.volume_tables.specs.declared.tables.Tables.{Tables}
 use Rattle.volume_tables.specs.Sound.{IsSound}
 use Rattle.volume_files.specs.Writing.{named_bytes, laid_from, reaching, AreExtentsSet, IsWritten, LosesNone}
-use Rattle.volume_files.specs.Writing.{accounted}
+use Rattle.volume_tables.specs.Stages.{accounted}
 use Rattle.volume_files.proofs.BlockSet.{found_file}
 use Rattle.volume_files.proofs.Extents.{exact}
 use Rattle.volume_files.proofs.Overwritten.{cells_overwritten}
 use Rattle.volume_files.proofs.Taking.{told}
 use Rattle.volume_files.proofs.Touched.{cell_named}
 
+-- what always holds, also after a refusal
+pub on_err_any : {A E P : Type 0} (r : Result A E) → P → OnErr r P
+on_err_any (Ok a) holds = tt
+on_err_any (Err e) holds = holds
+
 -- ---- its record
 
 module _ (n : ℕ) (t : Typed) (rules : RulesHold n t) (id to : ℕ) (was : FileRecord)
     (found : find nat_cmp id t.files ≡ Some was) where
-  held_before : FileHolds t id was
-  held_before = each_found nat_cmp nat_cmp-IsAntisymmetric (FileHolds t) id was t.files found rules.files
+  held_before : FileHolds (next_id_of t) id was
+  held_before = each_found nat_cmp nat_cmp-IsAntisymmetric (FileHolds (next_id_of t)) id was t.files found rules.files
 
   pub no_cover : was.covers ≡ 0
   no_cover = held_before.no_cover
@@ -56,7 +61,7 @@ module _ (n : ℕ) (t : Typed) (rules : RulesHold n t) (id to : ℕ) (was : File
         no_map = held_before.no_map;
         no_cover = held_before.no_cover;
       })
-      (each_weaker (ExtentHolds n t) (λ k e. k.0 ≡ id → 4096 * k.1 + e.valid ≤ (reaching to was).length) t.extents
+      (each_weaker (ExtentHolds n t.files) (λ k e. k.0 ≡ id → 4096 * k.1 + e.valid ≤ (reaching to was).length) t.extents
       (λ k e holds same.
       let lies : 4096 * k.1 + e.valid ≤ was.length =
       subst (LiesIn k e) (ap (λ (x : ℕ). find nat_cmp x t.files) same ∙ found) holds.in_file in
@@ -74,7 +79,7 @@ module _ (n : ℕ) (t : Typed) (rules : RulesHold n t) (id to : ℕ) (was : File
       by None is = get_or_past [] (p % 4096) 0 (omega arith)
       by (Some e) is =
           let key : FileBlock = (id, p / 4096) in
-          let holds = each_found pair_cmp exact (ExtentHolds n t) key e t.extents is rules.extents in
+          let holds = each_found pair_cmp exact (ExtentHolds n t.files) key e t.extents is rules.extents in
           let lies : 4096 * (p / 4096) + e.valid ≤ was.length = subst (LiesIn key e) found holds.in_file in
           let size = length-take e.valid (cluster_bytes e.cluster image) in
           get_or_past (block_of e image) (p % 4096) 0 (omega (arith, lies, size, past))

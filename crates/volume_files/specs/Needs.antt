@@ -1,7 +1,8 @@
 -- What each call asks for.
 use Rattle.std.specs.Prelude.{◌+◌, ◌-◌, ◌*◌, ◌/◌, ◌%◌, ◌&&◌, ℕ, zero, suc, Bool, true, false, cond, nat_lt, List}
 use Rattle.std.specs.Prelude.{[], ◌∷◌, length, Option, Some, None}
-use Rattle.std.specs.FinMap.{find}
+use Rattle.std.specs.FinMap.{find, put}
+use Rattle.byte_map.specs.Words.{bytes_cmp, next_in}
 use Rattle.table_records.specs.Keys.{pair_cmp}
 use Rattle.table_records.specs.declared.records.Extent.{Extent}
 use Rattle.volume_inside.specs.Typed.{Typed}
@@ -73,3 +74,30 @@ length_needs t file old len = record {
   records = 38 + cond (nat_lt len old) (31 + set_at_end t file len) 0;
   clusters = 0;
 }
+
+-- ---- how many bytes of records each call stages that is answered Ok
+
+-- the bytes of a name, if there is one
+abbrev pub name_bytes : {V : Type 0} → Option (List ℕ × V) → ℕ
+name_bytes None = 0
+name_bytes (Some e) = length e.0
+
+-- a name of these is dropped: its record has the name and the one above it
+abbrev pub drop_bytes : List (List ℕ × ℕ) → List ℕ → ℕ
+drop_bytes names name = 7 + (length name + name_bytes (next_in bytes_cmp name names))
+
+-- the records of a file, of its name and of the volume, whose next id has risen
+abbrev pub create_bytes : List ℕ → ℕ
+create_bytes name = 70 + length name
+
+-- the new name is set, and then the old one dropped
+abbrev pub rename_bytes : List (List ℕ × ℕ) → List ℕ → List ℕ → ℕ → ℕ
+rename_bytes names from to id = 14 + (length to + drop_bytes (put bytes_cmp to id names) from)
+
+-- a name, the record of a file and its extents are dropped
+abbrev pub delete_bytes : List (List ℕ × ℕ) → List ℕ → ℕ
+delete_bytes names name = 54 + drop_bytes names name
+
+-- an extent of each cluster that is touched, and the record of the file
+abbrev pub write_bytes : ℕ → ℕ → ℕ
+write_bytes at count = 38 + 24 * touched at count

@@ -1,6 +1,6 @@
 -- Bytes that are written into a file over the tables.
 use Rattle.std.specs.Prelude.{◌≡◌, ◌≤◌, ◌&&◌, ◌<◌, ◌+◌, ◌-◌, ◌*◌, ◌/◌, ℕ, false, List, [], ◌∷◌, length, get_or, max}
-use Rattle.std.specs.Prelude.{nat_le, Option, Some, None, IsSome, if◌then◌else◌}
+use Rattle.std.specs.Prelude.{nat_le, Option, Some, None, IsSome, Result, OnOk, if◌then◌else◌}
 use Rattle.std.specs.Ordering.{nat_cmp}
 use Rattle.std.specs.FinMap.{find, put}
 use Rattle.vdisk.specs.Ranges.{part}
@@ -8,7 +8,7 @@ use Rattle.vdisk.specs.declared.disk.Disk.{Ghosts}
 use Rattle.cluster_space.specs.declared.run.Run.{Run}
 use Rattle.cluster_space.specs.declared.state.State.{State}
 use Rattle.cluster_space.specs.declared.state.State.TheVariants.{Free, Deferred}
-use Rattle.cluster_space.specs.States.{IsIn, free_in, deferred_in}
+use Rattle.cluster_space.specs.States.{IsIn}
 use Rattle.plain_volume.specs.Volume.{Cell, Byte, is_within}
 use Rattle.plain_volume.specs.declared.call.Fault.{Fault}
 use Rattle.table_records.specs.Keys.{pair_cmp}
@@ -17,11 +17,12 @@ use Rattle.table_records.specs.declared.records.FileRecord.{FileRecord}
 use Rattle.volume_inside.specs.Typed.{Typed, FileBlock}
 use Rattle.volume_inside.specs.Inside.{block_of, cluster_bytes}
 use Rattle.volume_inside.specs.Layout.{IsDataCluster}
-use Rattle.volume_inside.specs.Named.{clusters_of}
-use Rattle.volume_tables.specs.Tables.{tables_now, states_of, stopped}
+use Rattle.volume_tables.specs.Tables.{tables_now, stopped}
 use Rattle.volume_tables.specs.declared.tables.Tables.{Tables}
+use Rattle.volume_tables.specs.Pending.{IsPending}
+use Rattle.volume_tables.specs.Stages.{accounted}
 use Rattle.volume_tables.specs.Wants.{wanting}
-use Rattle.volume_files.specs.Needs.{write_needs}
+use Rattle.volume_files.specs.Needs.{write_needs, write_bytes}
 
 -- ---- bytes
 
@@ -118,10 +119,6 @@ pub record IsNoFreer (old new : List State) : Type 0 where
   pub deferred : (k : ℕ) → IsIn old k Deferred → IsIn new k Deferred
 
 module _ {D : Type 0} {d : Ghosts D} where
-  -- the clusters that are free, deferred or named
-  abbrev pub accounted : Tables D d → ℕ
-  accounted t = free_in (states_of t) + deferred_in (states_of t) + length (clusters_of (tables_now t))
-
   -- no cluster is lost, unless the volume is stopped
   abbrev pub LosesNone : Tables D d → Tables D d → Type 0
   LosesNone old new = stopped new ≡ false → accounted new ≡ accounted old
@@ -130,3 +127,9 @@ module _ {D : Type 0} {d : Ghosts D} where
   abbrev pub write_wants : Tables D d → ℕ → ℕ → List ℕ → Option Fault
   write_wants t file at [] = None
   write_wants t file at (b ∷ bytes) = wanting t (write_needs (tables_now t) file at (length (b ∷ bytes)))
+
+  -- what a write does to what waits for a commit: no bytes leave all as it was
+  abbrev pub IsWritePending : ℕ → ℕ → List ℕ → Tables D d → Tables D d → Result (Unit {0}) Fault → Type 0
+  IsWritePending file at [] old new result = OnOk result (new ≡ old)
+  IsWritePending file at (b ∷ bytes) old new result = IsPending
+      (write_needs (tables_now old) file at (length (b ∷ bytes))) (write_bytes at (length (b ∷ bytes))) old new result

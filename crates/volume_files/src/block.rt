@@ -73,7 +73,7 @@ fn read_front<D: Disk>(
     ensures failed { OnErr result (IsErrOf result Fault.Failed ×
         Rose (disk_of tables.old).faults (disk_of tables.new).faults) }
 {
-    tables.read_range(extent.cluster, 0, &mut block[..extent.valid as usize])
+    tables.read_run(extent.cluster, 0, &mut block[..extent.valid as usize])
 }
 
 /// Reads the bytes that an extent names, if there is one, into a block of zeros.
@@ -307,7 +307,8 @@ fn name_block<D: Disk>(
     ensures fewer { IsNoFreer (states_of tables.old) (states_of tables.new) }
     ensures free { OnOk result (free_in (states_of tables.new) + 1 ≡ free_in (states_of tables.old)) }
     ensures loses_none { LosesNone tables.old tables.new }
-    ensures staged { staged_of tables.new ≤ staged_of tables.old + 24 }
+    ensures staged { OnOk result (staged_of tables.new ≡ staged_of tables.old + 24) }
+    ensures none_staged { OnErr result (staged_of tables.new ≡ staged_of tables.old) }
     ensures checkpoint { OnOk result (checkpoint_of tables.new ≡
         checkpoint_of tables.old + new_bytes (find pair_cmp key (tables_now tables.old).extents) 24) }
     ensures runs { OnOk result (stopped tables.new ≡ false) }
@@ -380,7 +381,8 @@ pub(crate) fn write_block<D: Disk>(
     ensures fewer { IsNoFreer (states_of tables.old) (states_of tables.new) }
     ensures free { OnOk result (free_in (states_of tables.new) + 1 ≡ free_in (states_of tables.old)) }
     ensures loses_none { LosesNone tables.old tables.new }
-    ensures staged { staged_of tables.new ≤ staged_of tables.old + 24 }
+    ensures staged { OnOk result (staged_of tables.new ≡ staged_of tables.old + 24) }
+    ensures none_staged { OnErr result (staged_of tables.new ≡ staged_of tables.old) }
     ensures checkpoint { OnOk result (checkpoint_of tables.new ≡ checkpoint_of tables.old + new_bytes was 24) }
     ensures runs { OnOk result (stopped tables.new ≡ false) }
     ensures stops { stopped tables.new ≡ true → IsErrOf result Fault.Failed }

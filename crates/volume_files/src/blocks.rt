@@ -100,8 +100,12 @@ pub(crate) fn write_blocks<D: Disk>(
     ensures spends { Spends (blocks_up_to (at + length bytes.now) index) 0 tables.old tables.new }
     ensures deferred { (k : ℕ) → IsIn (states_of tables.old) k Deferred → IsIn (states_of tables.new) k Deferred }
     ensures loses_none { LosesNone tables.old tables.new }
-    ensures staged { staged_of tables.new ≤
+    ensures most { staged_of tables.new ≤
         staged_of tables.old + 55 * blocks_up_to (at + length bytes.now) index }
+    ensures staged { OnOk result (staged_of tables.new ≡
+        staged_of tables.old + 24 * blocks_up_to (at + length bytes.now) index) }
+    ensures taken { OnOk result (free_in (states_of tables.new) + blocks_up_to (at + length bytes.now) index ≡
+        free_in (states_of tables.old)) }
     ensures runs { OnOk result (stopped tables.new ≡ false) }
     ensures stops { stopped tables.new ≡ true → IsErrOf result Fault.Failed }
     ensures refused { OnErr result (IsErrOf result Fault.Failed ⊎ IsErrOf result Fault.Memory) }

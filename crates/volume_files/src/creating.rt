@@ -7,12 +7,13 @@ ghost use Rattle.volume_inside.specs.Layout.{half_bytes};
 ghost use Rattle.volume_inside.specs.Rules.{RulesHold, next_id_of};
 ghost use Rattle.volume_tables.specs.Tables.{clusters_in, tables_now, inside_now, view_now, states_of, staged_of};
 ghost use Rattle.volume_tables.specs.Tables.{checkpoint_of, disk_of, stopped, Leaves};
+ghost use Rattle.volume_tables.specs.Pending.{IsPending};
 ghost use Rattle.volume_tables.specs.Sound.{IsSound, Endures, Spares};
 ghost use Rattle.volume_tables.specs.Spending.{Spends};
 ghost use Rattle.volume_tables.specs.Wants.{last_id, wanting, IsRepliedOrMemory};
 ghost use Rattle.volume_files.specs.Insides.{inside_created};
 ghost use Rattle.volume_files.specs.Names.{with_new, IsNewName, IsRefused};
-ghost use Rattle.volume_files.specs.Needs.{create_needs};
+ghost use Rattle.volume_files.specs.Needs.{create_needs, create_bytes};
 
 use plain_volume::limits::MOST_FILES;
 use plain_volume::{Fault, name_is_lawful};
@@ -25,6 +26,7 @@ fn check_new<D: Disk>(tables: &Tables<D>, name: &[u8]) -> Result<(), Fault>
     ensures new { OnOk result (IsNewName (tables_now tables.now) name.now) }
     ensures refused { IfErr result (IsRefused (view_now tables.now) (Create name.now)) }
     ensures no_fault { IsErrOf result Fault.Failed → ⊥ }
+    ensures not_worn { IsErrOf result Fault.Worn → ⊥ }
 {
     if !name_is_lawful(name) {
         return Err(Fault::BadName);
@@ -49,6 +51,7 @@ fn put_file<D: Disk>(tables: &mut Tables<D>, name: &[u8]) -> Result<(), Fault>
     ensures err { OnErr result (tables_now tables.new ≡ tables_now tables.old) }
     ensures refused { OnErr result (IsErrOf result Fault.Memory) }
     ensures leaves { Leaves tables.old tables.new }
+    ensures staged { OnOk result (staged_of tables.new ≡ staged_of tables.old + create_bytes name.now) }
     ensures states { states_of tables.new ≡ states_of tables.old }
     ensures image { (disk_of tables.new).image ≡ (disk_of tables.old).image }
     ensures running { stopped tables.new ≡ stopped tables.old }
@@ -88,6 +91,7 @@ pub fn create<D: Disk>(tables: &mut Tables<D>, name: &[u8]) -> Result<(), Fault>
     ensures stops { stopped tables.new ≡ true → IsErrOf result Fault.Failed }
     ensures halts { IsErrOf result Fault.Failed → stopped tables.new ≡ true }
     ensures spares { Spares tables.old tables.new result }
+    ensures pending { IsPending (create_needs name.now) (create_bytes name.now) tables.old tables.new result }
 {
     check_new(tables, name)?;
     make_room(tables, true, 52 + name.len() as u64, 93 + name.len(), 0)?;

@@ -9,13 +9,14 @@ ghost use Rattle.plain_volume.specs.Replies.{done_reply};
 ghost use Rattle.plain_volume.specs.declared.call.Call.TheVariants.{Delete};
 ghost use Rattle.volume_inside.specs.Changes.{keep_names};
 ghost use Rattle.volume_tables.specs.Tables.{tables_now, inside_now, view_now, staged_of, disk_of, stopped};
+ghost use Rattle.volume_tables.specs.Pending.{IsPending};
 ghost use Rattle.volume_tables.specs.Sound.{IsSound, Endures, Spares};
 ghost use Rattle.volume_tables.specs.Spending.{Spends};
 ghost use Rattle.volume_tables.specs.Stages.{Stages};
 ghost use Rattle.volume_tables.specs.Wants.{wanting, IsReplied};
 ghost use Rattle.volume_files.specs.Insides.{inside_deleted};
 ghost use Rattle.volume_files.specs.Names.{is_other, without_name, AreShort};
-ghost use Rattle.volume_files.specs.Needs.{delete_needs};
+ghost use Rattle.volume_files.specs.Needs.{delete_needs, drop_bytes, delete_bytes};
 
 use crate::lookup::find_file;
 use plain_volume::Fault;
@@ -45,7 +46,7 @@ pub(crate) fn drop_one_name<D: Disk>(tables: &mut Tables<D>, name: &[u8])
     requires names { AreShort (tables_now tables.old).names }
     requires room { staged_of tables.old + (262 + length name.now) ≤ 65472 }
     ensures tables { tables_now tables.new ≡ keep_names (is_other name.now) (tables_now tables.old) }
-    ensures stages { Stages (262 + length name.now) tables.old tables.new }
+    ensures stages { Stages (drop_bytes (tables_now tables.old).names name.now) tables.old tables.new }
 {
     let mut next = [0u8; 255];
     match copy_next(tables, name, &mut next) {
@@ -61,7 +62,7 @@ fn drop_all<D: Disk>(tables: &mut Tables<D>, name: &[u8], id: u64)
     requires id { id < 2 ^ 48 }
     requires room { staged_of tables.old + (316 + length name.now) ≤ 65472 }
     ensures tables { tables_now tables.new ≡ without_name name.now id (tables_now tables.old) }
-    ensures stages { Stages (316 + length name.now) tables.old tables.new }
+    ensures stages { Stages (delete_bytes (tables_now tables.old).names name.now) tables.old tables.new }
 {
     drop_one_name(tables, name);
     tables.drop_file(id, Some(id + 1));
@@ -89,6 +90,8 @@ pub fn delete<D: Disk>(tables: &mut Tables<D>, name: &[u8]) -> Result<(), Fault>
     ensures stops { stopped tables.new ≡ true → IsErrOf result Fault.Failed }
     ensures halts { IsErrOf result Fault.Failed → stopped tables.new ≡ true }
     ensures spares { Spares tables.old tables.new result }
+    ensures pending { IsPending (delete_needs name.now) (delete_bytes (tables_now tables.old).names name.now)
+        tables.old tables.new result }
 {
     let (id, _) = find_file(tables, name)?;
     make_room(tables, false, 0, 316 + name.len(), 0)?;

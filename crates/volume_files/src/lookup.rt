@@ -15,6 +15,7 @@ pub fn find_file<D: Disk>(tables: &Tables<D>, name: &[u8]) -> Result<(u64, FileR
     ensures found { IfOk result (λ file. IsFileOf tables.now name.now file.0 file.1) }
     ensures refused { IfErr result (RefusesFile (view_now tables.now) name.now) }
     ensures no_fault { IsErrOf result Fault.Failed → ⊥ }
+    ensures not_worn { IsErrOf result Fault.Worn → ⊥ }
 {
     if !name_is_lawful(name) {
         return Err(Fault::BadName);

@@ -9,13 +9,14 @@ ghost use Rattle.volume_inside.specs.Layout.{half_bytes};
 ghost use Rattle.volume_inside.specs.Rules.{RulesHold};
 ghost use Rattle.volume_tables.specs.Tables.{clusters_in, tables_now, inside_now, view_now, staged_of, checkpoint_of};
 ghost use Rattle.volume_tables.specs.Tables.{disk_of, stopped};
+ghost use Rattle.volume_tables.specs.Pending.{IsPending};
 ghost use Rattle.volume_tables.specs.Sound.{IsSound, Endures, Spares};
 ghost use Rattle.volume_tables.specs.Spending.{Spends};
-ghost use Rattle.volume_tables.specs.Stages.{Stages};
+ghost use Rattle.volume_tables.specs.Stages.{if_ok, Stages};
 ghost use Rattle.volume_tables.specs.Wants.{wanting, IsRepliedOrMemory};
 ghost use Rattle.volume_files.specs.Insides.{inside_renamed};
 ghost use Rattle.volume_files.specs.Names.{with_renamed, AreShort, IsRenaming, IsRefused};
-ghost use Rattle.volume_files.specs.Needs.{rename_needs};
+ghost use Rattle.volume_files.specs.Needs.{rename_needs, rename_bytes};
 
 use crate::deleting::drop_one_name;
 use plain_volume::{Fault, name_is_lawful};
@@ -28,6 +29,7 @@ fn check_names<D: Disk>(tables: &Tables<D>, from: &[u8], to: &[u8]) -> Result<u6
     ensures found { IfOk result (IsRenaming (tables_now tables.now) from.now to.now) }
     ensures refused { IfErr result (IsRefused (view_now tables.now) (Rename from.now to.now)) }
     ensures no_fault { IsErrOf result Fault.Failed → ⊥ }
+    ensures not_worn { IsErrOf result Fault.Worn → ⊥ }
 {
     if !name_is_lawful(from) {
         return Err(Fault::BadName);
@@ -54,7 +56,8 @@ fn put_name<D: Disk>(tables: &mut Tables<D>, from: &[u8], to: &[u8], id: u64) ->
     ensures ok { OnOk result (tables_now tables.new ≡ with_renamed from.now to.now id (tables_now tables.old)) }
     ensures err { OnErr result (tables_now tables.new ≡ tables_now tables.old) }
     ensures refused { OnErr result (IsErrOf result Fault.Memory) }
-    ensures stages { Stages (276 + (length from.now + length to.now)) tables.old tables.new }
+    ensures stages { Stages (if_ok result (rename_bytes (tables_now tables.old).names from.now to.now id))
+        tables.old tables.new }
 {
     tables.set_name(to, id)?;
     drop_one_name(tables, from);
@@ -83,6 +86,9 @@ pub fn rename<D: Disk>(tables: &mut Tables<D>, from: &[u8], to: &[u8]) -> Result
     ensures stops { stopped tables.new ≡ true → IsErrOf result Fault.Failed }
     ensures halts { IsErrOf result Fault.Failed → stopped tables.new ≡ true }
     ensures spares { Spares tables.old tables.new result }
+    ensures pending { (id : ℕ) → find bytes_cmp from.now (tables_now tables.old).names ≡ Some id →
+        IsPending (rename_needs from.now to.now)
+        (rename_bytes (tables_now tables.old).names from.now to.now id) tables.old tables.new result }
 {
     let id = check_names(tables, from, to)?;
     make_room(

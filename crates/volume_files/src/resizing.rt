@@ -8,6 +8,7 @@ ghost use Rattle.plain_volume.specs.Step.{plain, after};
 ghost use Rattle.plain_volume.specs.declared.call.Call.TheVariants.{SetLength};
 ghost use Rattle.table_records.specs.declared.records.FileRecord.{FileRecord};
 ghost use Rattle.volume_tables.specs.Tables.{tables_now, inside_now, view_now, disk_of, staged_of, stopped};
+ghost use Rattle.volume_tables.specs.Pending.{IsPending};
 ghost use Rattle.volume_tables.specs.Sound.{IsSound, Endures, Spares};
 ghost use Rattle.volume_tables.specs.Spending.{Spends};
 ghost use Rattle.volume_tables.specs.Stages.{Stages};
@@ -115,6 +116,9 @@ pub fn set_length<D: Disk>(tables: &mut Tables<D>, name: &[u8], length: u64) -> 
     ensures stops { stopped tables.new ≡ true → IsErrOf result Fault.Failed }
     ensures halts { IsErrOf result Fault.Failed → stopped tables.new ≡ true }
     ensures spares { Spares tables.old tables.new result }
+    ensures pending { (id : ℕ) (file : FileRecord) → IsFileOf tables.old name.now id file →
+        IsPending (length_needs (tables_now tables.old) id file.length length)
+        (length_needs (tables_now tables.old) id file.length length).records tables.old tables.new result }
     ensures same { OnErr result (tables_now tables.new ≡ tables_now tables.old) }
     ensures inside { OnOk result (inside_now tables.new ≡ inside_resized name.now length (inside_now tables.old)) }
     ensures err_inside { OnErr result (inside_now tables.new ≡ inside_now tables.old) }

@@ -53,7 +53,7 @@ fn stretch_held<D: Disk>(
     first: Extent,
     most: usize,
 ) -> Stretch
-    requires extents { ExtentsHold (clusters_in tables.now) (tables_now tables.now) }
+    requires extents { let t = tables_now tables.now in ExtentsHold (clusters_in tables.now) t.files t.extents }
     requires first { find pair_cmp (file, place / 4096) (tables_now tables.now).extents ≡ Some first }
     requires held { place % 4096 < first.valid }
     requires some { 0 < most }
@@ -87,7 +87,7 @@ fn read_held<D: Disk>(
     first: Extent,
     out: &mut [u8],
 ) -> Result<Stretch, Fault>
-    requires extents { ExtentsHold (clusters_in tables.old) (tables_now tables.old) }
+    requires extents { let t = tables_now tables.old in ExtentsHold (clusters_in tables.old) t.files t.extents }
     requires first { find pair_cmp (file, place / 4096) (tables_now tables.old).extents ≡ Some first }
     requires held { place % 4096 < first.valid }
     requires some { 0 < length out.old }
@@ -140,7 +140,7 @@ pub(crate) fn read_stretch<D: Disk>(
     extent: Option<Extent>,
     out: &mut [u8],
 ) -> Result<Stretch, Fault>
-    requires extents { ExtentsHold (clusters_in tables.old) (tables_now tables.old) }
+    requires extents { let t = tables_now tables.old in ExtentsHold (clusters_in tables.old) t.files t.extents }
     requires extent { extent ≡ find pair_cmp (file, place / 4096) (tables_now tables.old).extents }
     requires some { 0 < length out.old }
     requires low { place + length out.old ≤ 1073741824 }

@@ -15,12 +15,13 @@ ghost use Rattle.volume_inside.specs.Typed.{Typed};
 ghost use Rattle.volume_inside.specs.View.{file_cells};
 ghost use Rattle.volume_tables.specs.Tables.{tables_now, inside_now, states_of, staged_of, checkpoint_of, disk_of};
 ghost use Rattle.volume_tables.specs.Tables.{clusters_in, stopped, IsTables, IsRoomFor, Leaves};
+ghost use Rattle.volume_tables.specs.Pending.{pending_of, roomed_of, worn_of};
 ghost use Rattle.volume_tables.specs.Sound.{IsSound, IsKept, Endures, Spares};
 ghost use Rattle.volume_tables.specs.Spending.{Spends};
 ghost use Rattle.volume_tables.specs.Wants.{wanting, IsWanting, IsRepliedOrMemory};
 ghost use Rattle.volume_files.specs.Insides.{id_written};
-ghost use Rattle.volume_files.specs.Needs.{missing, first_touched, touched, touched_at, write_needs};
-ghost use Rattle.volume_files.specs.Writing.{AreWritten, IsWritten, ReadsFirst, write_wants};
+ghost use Rattle.volume_files.specs.Needs.{missing, first_touched, touched, touched_at, write_needs, write_bytes};
+ghost use Rattle.volume_files.specs.Writing.{AreWritten, IsWritten, IsWritePending, ReadsFirst, write_wants};
 
 use crate::block::BLOCK;
 use crate::blocks::write_blocks;
@@ -67,6 +68,10 @@ fn make_room_for_write<D: Disk>(
     ensures stops { stopped tables.new ≡ true → IsErrOf result Fault.Failed }
     ensures halts { IsErrOf result Fault.Failed → stopped tables.new ≡ true }
     ensures spares { Spares tables.old tables.new result }
+    ensures pending { OnOk result (pending_of tables.new ≡ roomed_of tables.old
+        (write_needs (tables_now tables.old) file at count)) }
+    ensures worn { IsErrOf result Fault.Worn → pending_of tables.new ≡ worn_of tables.old
+        (write_needs (tables_now tables.old) file at count) }
 {
     let first = (at / BLOCK) as u32;
     let touches = ((at + count as u64 - 1) / BLOCK) as u32 + 1 - first;
@@ -105,6 +110,9 @@ fn write_with_room<D: Disk>(
     ensures sound { IsSound tables.new }
     ensures leaves { Leaves tables.old tables.new }
     ensures spends { Spends (touched at (length bytes.now)) 0 tables.old tables.new }
+    ensures staged { OnOk result (staged_of tables.new ≡ staged_of tables.old + write_bytes at (length bytes.now)) }
+    ensures taken { OnOk result (free_in (states_of tables.new) + touched at (length bytes.now) ≡
+        free_in (states_of tables.old)) }
     ensures stops { stopped tables.new ≡ true → IsErrOf result Fault.Failed }
     ensures refused { OnErr result (IsErrOf result Fault.Failed ⊎ IsErrOf result Fault.Memory) }
     ensures failed { IsErrOf result Fault.Failed → Rose (disk_of tables.old).faults (disk_of tables.new).faults }
@@ -154,6 +162,7 @@ pub fn write_plain<D: Disk>(
     ensures halts { IsErrOf result Fault.Failed → (stopped tables.new ≡ true) ⊎
         ReadsFirst file at at (length bytes.now) (tables_now tables.old) }
     ensures spares { Spares tables.old tables.new result }
+    ensures pending { IsWritePending file at bytes.now tables.old tables.new result }
 {
     if bytes.len() as u64 > MOST_BYTES_OF_A_CALL {
         return Err(Fault::TooLarge(MOST_BYTES_OF_A_CALL));

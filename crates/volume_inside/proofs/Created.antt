@@ -20,8 +20,8 @@ use Rattle.table_records.specs.declared.records.FileRecord.{FileRecord}
 use Rattle.table_records.specs.declared.records.Extent.{Extent}
 use Rattle.volume_inside.specs.Typed.{Typed, FileBlock}
 use Rattle.volume_inside.specs.Changes.{created}
-use Rattle.volume_inside.specs.Entries.{Each, each_put, each_found}
-use Rattle.volume_inside.specs.Rules.{IsVolumeRecord, id_after, next_id_of, NameHolds, IsNamedOnce, FileHolds, LiesIn, ExtentHolds, RulesHold}
+use Rattle.volume_inside.specs.Entries.{Each, each_put, each_found, each_weaker}
+use Rattle.volume_inside.specs.Rules.{IsVolumeRecord, id_after, NameHolds, IsNamedOnce, FileHolds, FilesHold, LiesIn, ExtentHolds, ExtentsHold, RulesHold}
 use Rattle.volume_inside.proofs.Lawfuls.{there_after, lies_after}
 
 abbrev Names : Type 0
@@ -58,28 +58,28 @@ names_after_put x id name (e ∷ names) none =
         ]
 
 -- a file that is there has an id below the next one
-pub drawn_id : (t : Typed) (x : ℕ) → Each (FileHolds t) t.files → IsSome (find nat_cmp x t.files) → x < next_id_of t
-drawn_id t x files there = by (find nat_cmp x t.files) refl there
+pub drawn_id : (next x : ℕ) (files : List (ℕ × FileRecord)) → FilesHold next files → IsSome (find nat_cmp x files) → x < next
+drawn_id next x files hold there = by (find nat_cmp x files) refl there
   where
-    by : (o : Option FileRecord) → find nat_cmp x t.files ≡ o → IsSome o → x < next_id_of t
+    by : (o : Option FileRecord) → find nat_cmp x files ≡ o → IsSome o → x < next
     by None is none = absurd (cc)
-    by (Some file) is some = (each_found nat_cmp nat_cmp-IsAntisymmetric (FileHolds t) x file t.files is files).drawn
+    by (Some file) is some = (each_found nat_cmp nat_cmp-IsAntisymmetric (FileHolds next) x file files is hold).drawn
 
 lies_there : (k : FileBlock) (e : Extent) (o : Option FileRecord) → LiesIn k e o → IsSome o
 lies_there k e None lies = absurd lies
 lies_there k e (Some file) lies = refl
 
 -- no name names an id that was not drawn
-unnamed_id : (t : Typed) (id : ℕ) → next_id_of t ≡ id → Each (FileHolds t) t.files → (names : List (List ℕ × ℕ)) → Each (NameHolds t) names
-    → length (filter (λ e. e.1 == id) names) ≡ 0
-unnamed_id t id next files [] each = refl
-unnamed_id t id next files (e ∷ names) each =
-    let low = drawn_id t e.1 files each.0.names_file in
-    let rest = unnamed_id t id next files names each.1 in
-    by (e.1 == id) (λ same. omega (arith, low, next, eqb-true e.1 id same)) rest
+unnamed_id : (next : ℕ) (files : List (ℕ × FileRecord)) → FilesHold next files → (names : Names) → Each (NameHolds files) names
+    → length (filter (λ e. e.1 == next) names) ≡ 0
+unnamed_id next files hold [] each = refl
+unnamed_id next files hold (e ∷ names) each =
+    let low = drawn_id next e.1 files hold each.0.names_file in
+    let rest = unnamed_id next files hold names each.1 in
+    by (e.1 == next) (λ same. omega (arith, low, eqb-true e.1 next same)) rest
   where
-    by : (b : Bool) → (b ≡ true → ⊥) → length (filter (λ e. e.1 == id) names) ≡ 0
-        → length (cond b (e ∷ filter (λ e. e.1 == id) names) (filter (λ e. e.1 == id) names)) ≡ 0
+    by : (b : Bool) → (b ≡ true → ⊥) → length (filter (λ e. e.1 == next) names) ≡ 0
+        → length (cond b (e ∷ filter (λ e. e.1 == next) names) (filter (λ e. e.1 == next) names)) ≡ 0
     by true never rest = absurd (never refl)
     by false never rest = rest
 
@@ -92,14 +92,11 @@ not_same a b less = by (b == a) (λ same. omega (arith, less, eqb-true b a same)
 
 module _ (n : ℕ) (t : Typed) (rules : RulesHold n t) (v : VolumeRecord) (there : find single_cmp tt t.volume ≡ Some v)
     (name : List ℕ) (file : FileRecord) where
-  drawn : next_id_of t ≡ v.next_id
-  drawn = ap id_after there
+  files_before : FilesHold v.next_id t.files
+  files_before = subst (λ (next : ℕ). FilesHold next t.files) (ap id_after there) rules.files
 
   volume_after : find single_cmp tt (created v name file t).volume ≡ Some (record { version = 1; next_id = v.next_id + 1 })
   volume_after = find-put single_cmp single_total tt tt (record { version = 1; next_id = v.next_id + 1 }) t.volume
-
-  next_after : next_id_of (created v name file t) ≡ v.next_id + 1
-  next_after = ap id_after volume_after
 
   file_after : find nat_cmp v.next_id (created v name file t).files ≡ Some file
   file_after =
@@ -114,51 +111,39 @@ module _ (n : ℕ) (t : Typed) (rules : RulesHold n t) (v : VolumeRecord) (there
   module _ (lawful : is_lawful name ≡ true) (new : find bytes_cmp name t.names ≡ None) (sorted : T (is_sorted bytes_cmp t.names))
       (few : length t.names < MOST_FILES) (ids : v.next_id < 2 ^ 48 - 1)
       (short : file.length ≤ MOST_BYTES_OF_A_FILE) (no_map : file.map_row ≡ 0) (no_cover : file.covers ≡ 0) where
-    names_hold : (names : List (List ℕ × ℕ)) → Each (NameHolds t) names → Each (NameHolds (created v name file t)) names
-    names_hold [] each = tt
-    names_hold (e ∷ names) each =
-        (record { lawful = each.0.lawful; names_file = there_after v.next_id e.1 file t.files each.0.names_file }, names_hold names each.1)
-
-    files_hold : (files : List (ℕ × FileRecord)) → Each (FileHolds t) files → Each (FileHolds (created v name file t)) files
-    files_hold [] each = tt
-    files_hold (e ∷ files) each = (
-      record {
-        some_id = each.0.some_id;
-        drawn = omega (arith, each.0.drawn, drawn, next_after);
-        short = each.0.short;
-        no_map = each.0.no_map;
-        no_cover = each.0.no_cover;
-      },
-      files_hold files each.1,
-    )
-
-    once_hold : (files : List (ℕ × FileRecord)) → Each (FileHolds t) files → Each (IsNamedOnce t) files → Each (IsNamedOnce (created v name file t)) files
+    once_hold : (files : List (ℕ × FileRecord)) → FilesHold v.next_id files → Each (IsNamedOnce t.names) files
+        → Each (IsNamedOnce (created v name file t).names) files
     once_hold [] each once = tt
     once_hold (e ∷ files) each once =
-        let low : e.0 < v.next_id = omega (arith, each.0.drawn, drawn) in
-        let count = names_after_put e.0 v.next_id name t.names new ∙ ap (λ (b : Bool). one_if b + length (filter (λ x. x.1 == e.0) t.names)) (not_same e.0 v.next_id low) in
+        let count = names_after_put e.0 v.next_id name t.names new
+        ∙ ap (λ (b : Bool). one_if b + length (filter (λ x. x.1 == e.0) t.names)) (not_same e.0 v.next_id each.0.drawn) in
         (count ∙ zero_more (length (filter (λ x. x.1 == e.0) t.names)) ∙ once.0, once_hold files each.1 once.1)
       where
         zero_more : (a : ℕ) → one_if false + a ≡ a
         zero_more a = omega arith
 
-    extents_hold : (es : List (FileBlock × Extent)) → Each (ExtentHolds n t) es → Each (ExtentHolds n (created v name file t)) es
-    extents_hold [] each = tt
-    extents_hold (e ∷ es) each =
-        let low = drawn_id t e.0.0 rules.files (lies_there e.0 e.1 (find nat_cmp e.0.0 t.files) each.0.in_file) in (
-          record {
-            in_file = lies_after e.0 e.1 v.next_id file t.files each.0.in_file (λ same. absurd (omega (arith, low, drawn, same)));
-            some_bytes = each.0.some_bytes;
-            in_cluster = each.0.in_cluster;
-            in_data = each.0.in_data;
-          },
-          extents_hold es each.1,
-        )
+    extents_hold : ExtentsHold n (created v name file t).files t.extents
+    extents_hold =
+        each_weaker (ExtentHolds n t.files) (ExtentHolds n (created v name file t).files) t.extents
+        (λ k e h. let low = drawn_id v.next_id k.0 t.files files_before (lies_there k e (find nat_cmp k.0 t.files) h.in_file) in record {
+          in_file = lies_after k e v.next_id file t.files h.in_file (λ same. absurd (omega (arith, low, same)));
+          some_bytes = h.some_bytes;
+          in_cluster = h.in_cluster;
+          in_data = h.in_data;
+        }) rules.extents
 
-    named_once : IsNamedOnce (created v name file t) v.next_id file
+    named_once : IsNamedOnce (created v name file t).names v.next_id file
     named_once =
         names_after_put v.next_id v.next_id name t.names new
-        ∙ (λ i. one_if (eq-eqb v.next_id v.next_id refl i) + unnamed_id t v.next_id drawn rules.files t.names rules.names.names i)
+        ∙ (λ i. one_if (eq-eqb v.next_id v.next_id refl i) + unnamed_id v.next_id t.files files_before t.names rules.names.names i)
+
+    files_after : FilesHold (v.next_id + 1) (created v name file t).files
+    files_after =
+        each_put nat_cmp nat_cmp-IsAntisymmetric (FileHolds (v.next_id + 1)) v.next_id file t.files
+        (record { some_id = one_volume; drawn = omega arith; short = short; no_map = no_map; no_cover = no_cover })
+        (each_weaker (FileHolds v.next_id) (FileHolds (v.next_id + 1)) t.files
+        (λ x f h. record { some_id = h.some_id; drawn = omega (arith, h.drawn); short = h.short; no_map = h.no_map; no_cover = h.no_cover })
+        files_before)
 
     -- THE NEW FILE: the tables with it meet the rules
     pub rules_created : RulesHold n (created v name file t)
@@ -170,23 +155,18 @@ module _ (n : ℕ) (t : Typed) (rules : RulesHold n t) (v : VolumeRecord) (there
         results = rules.records.results;
       };
       names = record {
-        names = each_put bytes_cmp exact_bytes (NameHolds (created v name file t)) name v.next_id t.names
-            (record { lawful = lawful; names_file = ap is_some file_after }) (names_hold t.names rules.names.names);
-        once = each_put nat_cmp nat_cmp-IsAntisymmetric (IsNamedOnce (created v name file t)) v.next_id file t.files named_once
-            (once_hold t.files rules.files rules.names.once);
+        names = each_put bytes_cmp exact_bytes (NameHolds (created v name file t).files) name v.next_id t.names
+            (record { lawful = lawful; names_file = ap is_some file_after })
+            (each_weaker (NameHolds t.files) (NameHolds (created v name file t).files) t.names
+            (λ other x h. record { lawful = h.lawful; names_file = there_after v.next_id x file t.files h.names_file }) rules.names.names);
+        once = each_put nat_cmp nat_cmp-IsAntisymmetric (IsNamedOnce (created v name file t).names) v.next_id file t.files named_once
+            (once_hold t.files files_before rules.names.once);
         few =
             let long = length-put bytes_cmp nat_list_cmp_total name v.next_id t.names sorted
             ∙ ap (λ (o : Option ℕ). cond (is_some o) (length t.names) (length t.names + 1)) new in
             omega (arith, long, few);
       };
-      files = each_put nat_cmp nat_cmp-IsAntisymmetric (FileHolds (created v name file t)) v.next_id file t.files
-          (record {
-            some_id = one_volume;
-            drawn = omega (arith, next_after);
-            short = short;
-            no_map = no_map;
-            no_cover = no_cover;
-          }) (files_hold t.files rules.files);
-      extents = extents_hold t.extents rules.extents;
+      files = subst (λ (next : ℕ). FilesHold next (created v name file t).files) (sym (ap id_after volume_after)) files_after;
+      extents = extents_hold;
       clusters = rules.clusters;
     }

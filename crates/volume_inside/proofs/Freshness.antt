@@ -1,6 +1,6 @@
 -- The tables of a fresh volume meet the rules, and show no file.
 use Rattle.std.specs.Prelude.{◌≡◌, ◌*◌, ℕ, List, [], length, Ok, IsSomeAnd, refl}
-use Rattle.std.proofs.Common.{◌∙◌, arith, inl, inr, ap, subst, sym}
+use Rattle.std.proofs.Common.{◌∙◌, arith, ap, subst, sym}
 use Rattle.std.specs.FinMap.{find}
 use Rattle.byte_map.specs.Words.{Map}
 use Rattle.table_records.specs.Keys.{kind_cmp}
@@ -24,7 +24,7 @@ fresh_results GarbageCollection = record { known = omega arith }
 fresh_results Scrubbing = record { known = omega arith }
 fresh_results Unoptimization = record { known = omega arith }
 
-fresh_records : RecordsHold fresh_tables
+fresh_records : RecordsHold fresh_tables.volume fresh_tables.settings fresh_tables.results
 fresh_records = record {
   volume = record { version = refl; some_id = omega arith; last_id = omega arith };
   settings = record {
@@ -49,25 +49,7 @@ fresh_rules n = record {
 }
 
 fresh_spelled : AllWellFormed fresh_map
-fresh_spelled = (
-  inl (record { spells = refl; whole = refl }),
-  (
-    inr (inr (inr (inr (inl (record { spells = refl; whole = refl }))))),
-    (
-      inr (inr (inr (inr (inr (record { spells = refl; whole = refl }))))),
-      (
-        inr (inr (inr (inr (inr (record { spells = refl; whole = refl }))))),
-        (
-          inr (inr (inr (inr (inr (record { spells = refl; whole = refl }))))),
-          (
-            inr (inr (inr (inr (inr (record { spells = refl; whole = refl }))))),
-            tt,
-          ),
-        ),
-      ),
-    ),
-  ),
-)
+fresh_spelled = (refl, (refl, (refl, (refl, (refl, (refl, tt))))))
 
 pub fresh_volume : (n : ℕ) → IsVolume n fresh_map
 fresh_volume n = record { spelled = fresh_spelled; rules = fresh_rules n }

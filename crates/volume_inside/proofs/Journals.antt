@@ -12,8 +12,7 @@ use Rattle.volume_inside.specs.Layout.{half_bytes, journal_at, IsDataCluster, Ar
 use Rattle.volume_inside.specs.Ranges.{IsApart}
 use Rattle.volume_inside.specs.Bases.{base_ranges, base_clusters, bases_apart}
 use Rattle.volume_inside.specs.Named.{named, extent_ranges, extent_clusters, clusters_of}
-use Rattle.volume_inside.specs.Entries.{Each}
-use Rattle.volume_inside.specs.Rules.{ExtentHolds, RulesHold}
+use Rattle.volume_inside.specs.Rules.{ExtentsHold, RulesHold}
 
 pub journal_apart : (n : ℕ) (t : Typed) → AreData n (clusters_of t) → IsApart journal_at (2 * half_bytes n) (named t)
 journal_apart n t in_data = (inl (omega arith), extents t.extents in_data)
@@ -28,7 +27,7 @@ module _ (n : ℕ) where
   pub rules_data : (t : Typed) → RulesHold n t → AreData n (clusters_of t)
   rules_data t rules = extents t.extents rules.extents
     where
-      extents : (es : List (FileBlock × Extent)) → Each (ExtentHolds n t) es → AreData n (extent_clusters es ++ base_clusters t)
+      extents : (es : List (FileBlock × Extent)) → ExtentsHold n t.files es → AreData n (extent_clusters es ++ base_clusters t)
       extents [] each = tt
       extents (e ∷ es) each = (each.0.in_data, extents es each.1)
 

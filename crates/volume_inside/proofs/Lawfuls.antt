@@ -15,7 +15,7 @@ use Rattle.volume_inside.specs.Bases.{base_clusters}
 use Rattle.volume_inside.specs.Named.{clusters_of}
 use Rattle.volume_inside.specs.Lists.{IsOnce}
 use Rattle.volume_inside.specs.Entries.{Each, each_put, each_found, each_weaker, each_where_key}
-use Rattle.volume_inside.specs.Rules.{NameHolds, IsNamedOnce, FileHolds, LiesIn, ExtentHolds, RulesHold}
+use Rattle.volume_inside.specs.Rules.{next_id_of, NameHolds, IsNamedOnce, FileHolds, LiesIn, ExtentHolds, ExtentsHold, RulesHold}
 use Rattle.volume_inside.proofs.Spaces.{once_kept}
 
 -- ---- a file that is put
@@ -45,69 +45,46 @@ lies_after k e id file files lies mine =
 
 module _ (n : ℕ) (t : Typed) (rules : RulesHold n t) where
   -- an extent that meets its rule, over a cluster that is not named otherwise
-  pub rules_with_extent : (k : FileBlock) (e : Extent) → ExtentHolds n t k e → IsOnce (clusters_of (with_extent k e t))
+  pub rules_with_extent : (k : FileBlock) (e : Extent) → ExtentHolds n t.files k e → IsOnce (clusters_of (with_extent k e t))
       → RulesHold n (with_extent k e t)
-  rules_with_extent k e holds once =
-      let u = with_extent k e t in
-      let put_there = each_put pair_cmp (exact_pairs nat_cmp nat_cmp exact_unsigned exact_unsigned) (ExtentHolds n t) k e t.extents holds rules.extents in
-      record {
-        records = record { volume = rules.records.volume; settings = rules.records.settings; results = rules.records.results };
-        names = record {
-          names = each_weaker (NameHolds t) (NameHolds u) t.names
-              (λ name id h. record { lawful = h.lawful; names_file = h.names_file }) rules.names.names;
-          once = rules.names.once;
-          few = rules.names.few;
-        };
-        files = each_weaker (FileHolds t) (FileHolds u) t.files
-            (λ id file h. record { some_id = h.some_id; drawn = h.drawn; short = h.short; no_map = h.no_map; no_cover = h.no_cover }) rules.files;
-        extents = each_weaker (ExtentHolds n t) (ExtentHolds n u) u.extents
-            (λ x y h. record { in_file = h.in_file; some_bytes = h.some_bytes; in_cluster = h.in_cluster; in_data = h.in_data }) put_there;
-        clusters = once;
-      }
+  rules_with_extent k e holds once = record {
+    records = rules.records;
+    names = rules.names;
+    files = rules.files;
+    extents = each_put pair_cmp (exact_pairs nat_cmp nat_cmp exact_unsigned exact_unsigned) (ExtentHolds n t.files) k e t.extents holds rules.extents;
+    clusters = once;
+  }
 
   -- some of the extents
   pub rules_keep_extents : (test : FileBlock → Bool) → RulesHold n (keep_extents test t)
-  rules_keep_extents test =
-      let u = keep_extents test t in
-      let kept = each_where_key pair_cmp (ExtentHolds n t) test t.extents rules.extents in
-      record {
-        records = record { volume = rules.records.volume; settings = rules.records.settings; results = rules.records.results };
-        names = record {
-          names = each_weaker (NameHolds t) (NameHolds u) t.names
-              (λ name id h. record { lawful = h.lawful; names_file = h.names_file }) rules.names.names;
-          once = rules.names.once;
-          few = rules.names.few;
-        };
-        files = each_weaker (FileHolds t) (FileHolds u) t.files
-            (λ id file h. record { some_id = h.some_id; drawn = h.drawn; short = h.short; no_map = h.no_map; no_cover = h.no_cover }) rules.files;
-        extents = each_weaker (ExtentHolds n t) (ExtentHolds n u) u.extents
-            (λ x y h. record { in_file = h.in_file; some_bytes = h.some_bytes; in_cluster = h.in_cluster; in_data = h.in_data }) kept;
-        clusters = once_kept (0, 0) (base_clusters t) test t.extents rules.clusters;
-      }
+  rules_keep_extents test = record {
+    records = rules.records;
+    names = rules.names;
+    files = rules.files;
+    extents = each_where_key pair_cmp (ExtentHolds n t.files) test t.extents rules.extents;
+    clusters = once_kept (0, 0) (base_clusters t) test t.extents rules.clusters;
+  }
 
   -- another record of a file that is there, in which its blocks lie
-  pub rules_with_file : (id : ℕ) (old file : FileRecord) → find nat_cmp id t.files ≡ Some old → FileHolds t id file
+  pub rules_with_file : (id : ℕ) (old file : FileRecord) → find nat_cmp id t.files ≡ Some old → FileHolds (next_id_of t) id file
       → Each (λ k e. k.0 ≡ id → 4096 * k.1 + e.valid ≤ file.length) t.extents → RulesHold n (with_file id file t)
   rules_with_file id old file found holds blocks =
-      let u = with_file id file t in
-      let one : IsNamedOnce t id file = each_found nat_cmp nat_cmp-IsAntisymmetric (IsNamedOnce t) id old t.files found rules.names.once in
-      let files_put = each_put nat_cmp nat_cmp-IsAntisymmetric (FileHolds t) id file t.files holds rules.files in
+      let one : IsNamedOnce t.names id file = each_found nat_cmp nat_cmp-IsAntisymmetric (IsNamedOnce t.names) id old t.files found rules.names.once in
       record {
-        records = record { volume = rules.records.volume; settings = rules.records.settings; results = rules.records.results };
+        records = rules.records;
         names = record {
-          names = each_weaker (NameHolds t) (NameHolds u) t.names
+          names = each_weaker (NameHolds t.files) (NameHolds (with_file id file t).files) t.names
               (λ name x h. record { lawful = h.lawful; names_file = there_after id x file t.files h.names_file }) rules.names.names;
-          once = each_put nat_cmp nat_cmp-IsAntisymmetric (IsNamedOnce t) id file t.files one rules.names.once;
+          once = each_put nat_cmp nat_cmp-IsAntisymmetric (IsNamedOnce t.names) id file t.files one rules.names.once;
           few = rules.names.few;
         };
-        files = each_weaker (FileHolds t) (FileHolds u) u.files
-            (λ x y h. record { some_id = h.some_id; drawn = h.drawn; short = h.short; no_map = h.no_map; no_cover = h.no_cover }) files_put;
+        files = each_put nat_cmp nat_cmp-IsAntisymmetric (FileHolds (next_id_of t)) id file t.files holds rules.files;
         extents = lie t.extents rules.extents blocks;
         clusters = rules.clusters;
       }
     where
-      lie : (es : List (FileBlock × Extent)) → Each (ExtentHolds n t) es
-          → Each (λ k e. k.0 ≡ id → 4096 * k.1 + e.valid ≤ file.length) es → Each (ExtentHolds n (with_file id file t)) es
+      lie : (es : List (FileBlock × Extent)) → ExtentsHold n t.files es
+          → Each (λ k e. k.0 ≡ id → 4096 * k.1 + e.valid ≤ file.length) es → ExtentsHold n (with_file id file t).files es
       lie [] each blocks = tt
       lie (e ∷ es) each blocks = (
         record {

@@ -12,3 +12,4 @@ pub mod Removed
 pub mod Insides
 pub mod Superblocks
 pub mod Journals
+pub mod Others

@@ -19,10 +19,11 @@ use Rattle.table_records.specs.declared.records.Extent.{Extent}
 use Rattle.volume_inside.specs.Typed.{Typed, FileBlock}
 use Rattle.volume_inside.specs.Changes.{deleted, renamed, DropsOnly}
 use Rattle.volume_inside.specs.Bases.{base_clusters}
-use Rattle.volume_inside.specs.Entries.{Each, each_put, each_found}
-use Rattle.volume_inside.specs.Rules.{NameHolds, IsNamedOnce, FileHolds, LiesIn, ExtentHolds, RulesHold}
+use Rattle.volume_inside.specs.Entries.{Each, each_put, each_found, each_weaker, each_where_key}
+use Rattle.volume_inside.specs.Rules.{next_id_of, NameHolds, IsNamedOnce, FileHolds, LiesIn, ExtentsHold, RulesHold}
 use Rattle.volume_inside.proofs.Spaces.{once_kept}
-use Rattle.volume_inside.proofs.Changed.{first_true, second_true, none_below, below_too, not_below}
+use Rattle.volume_inside.proofs.Changed.{none_below, below_too, not_below}
+use Rattle.groundwork.proofs.Bools.{first_true, second_true}
 use Rattle.volume_inside.proofs.Names.{other_names}
 use Rattle.volume_inside.proofs.Created.{names_after_put, one_if}
 
@@ -124,41 +125,37 @@ module _ (n : ℕ) (t : Typed) (rules : RulesHold n t) (name : List ℕ) (id : �
     (found : find bytes_cmp name t.names ≡ Some id) (names_test : List ℕ → Bool) (files_test : ℕ → Bool) (blocks_test : FileBlock → Bool)
     (one_name : DropsOnly (λ other. other ≡ name) names_test) (one_file : DropsOnly (λ x. x ≡ id) files_test)
     (its_blocks : DropsOnly (λ k. k.0 ≡ id) blocks_test) where
+  abbrev names_left : List (List ℕ × ℕ)
+  names_left = where_key bytes_cmp names_test t.names
+
+  abbrev files_left : List (ℕ × FileRecord)
+  files_left = where_key nat_cmp files_test t.files
+
   -- a file of another id is where it was
-  stays : (x : ℕ) → (x ≡ id → ⊥) → find nat_cmp x (where_key nat_cmp files_test t.files) ≡ find nat_cmp x t.files
+  stays : (x : ℕ) → (x ≡ id → ⊥) → find nat_cmp x files_left ≡ find nat_cmp x t.files
   stays x differ =
       find-where_key nat_cmp files_test x (λ y same. ap files_test (sym (nat_cmp-IsAntisymmetric x y same))) t.files
       ∙ ap (λ (b : Bool). cond b (find nat_cmp x t.files) None) (one_file.keeps x differ)
 
-  names_left : (names : List (List ℕ × ℕ)) → Each (NameHolds t) names → Each (λ other x. (other ≡ name → ⊥) → x ≡ id → ⊥) names
-      → Each (NameHolds (deleted names_test files_test blocks_test t)) (where_key bytes_cmp names_test names)
-  names_left [] each others = tt
-  names_left (e ∷ names) each others =
-      by (names_test e.0) refl (names_left names each.1 others.1)
+  names_hold : (names : List (List ℕ × ℕ)) → Each (NameHolds t.files) names → Each (λ other x. (other ≡ name → ⊥) → x ≡ id → ⊥) names
+      → Each (NameHolds files_left) (where_key bytes_cmp names_test names)
+  names_hold [] each others = tt
+  names_hold (e ∷ names) each others =
+      by (names_test e.0) refl (names_hold names each.1 others.1)
     where
-      by : (b : Bool) → names_test e.0 ≡ b → Each (NameHolds (deleted names_test files_test blocks_test t)) (where_key bytes_cmp names_test names)
-          → Each (NameHolds (deleted names_test files_test blocks_test t)) (cond b (e ∷ where_key bytes_cmp names_test names) (where_key bytes_cmp names_test names))
+      by : (b : Bool) → names_test e.0 ≡ b → Each (NameHolds files_left) (where_key bytes_cmp names_test names)
+          → Each (NameHolds files_left) (cond b (e ∷ where_key bytes_cmp names_test names) (where_key bytes_cmp names_test names))
       by true is rest =
           let other = others.0 (is_kept (λ k. k ≡ name) names_test one_name e.0 is) in
           (record { lawful = each.0.lawful; names_file = subst IsSome (sym (stays e.1 other)) each.0.names_file }, rest)
       by false is rest = rest
 
-  files_left : (files : List (ℕ × FileRecord)) → Each (FileHolds t) files → Each (FileHolds (deleted names_test files_test blocks_test t)) (where_key nat_cmp files_test files)
-  files_left [] each = tt
-  files_left (e ∷ files) each =
-      let rest = files_left files each.1 in
-      let h = each.0 in
-      elim (files_test e.0) as (λ b. Each (FileHolds (deleted names_test files_test blocks_test t)) (cond b (e ∷ where_key nat_cmp files_test files) (where_key nat_cmp files_test files))) [
-        | true ↦ (record { some_id = h.some_id; drawn = h.drawn; short = h.short; no_map = h.no_map; no_cover = h.no_cover }, rest)
-        | false ↦ rest
-      ]
-
-  once_left : (files : List (ℕ × FileRecord)) → Each (IsNamedOnce t) files → Each (IsNamedOnce (deleted names_test files_test blocks_test t)) (where_key nat_cmp files_test files)
-  once_left [] each = tt
-  once_left (e ∷ files) each = by (files_test e.0) refl (once_left files each.1)
+  once_hold : (files : List (ℕ × FileRecord)) → Each (IsNamedOnce t.names) files → Each (IsNamedOnce names_left) (where_key nat_cmp files_test files)
+  once_hold [] each = tt
+  once_hold (e ∷ files) each = by (files_test e.0) refl (once_hold files each.1)
     where
-      by : (b : Bool) → files_test e.0 ≡ b → Each (IsNamedOnce (deleted names_test files_test blocks_test t)) (where_key nat_cmp files_test files)
-          → Each (IsNamedOnce (deleted names_test files_test blocks_test t)) (cond b (e ∷ where_key nat_cmp files_test files) (where_key nat_cmp files_test files))
+      by : (b : Bool) → files_test e.0 ≡ b → Each (IsNamedOnce names_left) (where_key nat_cmp files_test files)
+          → Each (IsNamedOnce names_left) (cond b (e ∷ where_key nat_cmp files_test files) (where_key nat_cmp files_test files))
       by true is rest =
           let differ = is_kept (λ x. x ≡ id) files_test one_file e.0 is in
           let count = count_dropped name names_test one_name e.0 id t.names (splits name names_test one_name id t.names sorted found) in
@@ -166,12 +163,12 @@ module _ (n : ℕ) (t : Typed) (rules : RulesHold n t) (name : List ℕ) (id : �
           (omega (arith, count, none, each.0), rest)
       by false is rest = rest
 
-  extents_left : (es : List (FileBlock × Extent)) → Each (ExtentHolds n t) es → Each (ExtentHolds n (deleted names_test files_test blocks_test t)) (where_key pair_cmp blocks_test es)
-  extents_left [] each = tt
-  extents_left (e ∷ es) each = by (blocks_test e.0) refl (extents_left es each.1)
+  extents_hold : (es : List (FileBlock × Extent)) → ExtentsHold n t.files es → ExtentsHold n files_left (where_key pair_cmp blocks_test es)
+  extents_hold [] each = tt
+  extents_hold (e ∷ es) each = by (blocks_test e.0) refl (extents_hold es each.1)
     where
-      by : (b : Bool) → blocks_test e.0 ≡ b → Each (ExtentHolds n (deleted names_test files_test blocks_test t)) (where_key pair_cmp blocks_test es)
-          → Each (ExtentHolds n (deleted names_test files_test blocks_test t)) (cond b (e ∷ where_key pair_cmp blocks_test es) (where_key pair_cmp blocks_test es))
+      by : (b : Bool) → blocks_test e.0 ≡ b → ExtentsHold n files_left (where_key pair_cmp blocks_test es)
+          → ExtentsHold n files_left (cond b (e ∷ where_key pair_cmp blocks_test es) (where_key pair_cmp blocks_test es))
       by true is rest =
           let differ = is_kept (λ k. k.0 ≡ id) blocks_test its_blocks e.0 is in (
             record {
@@ -187,14 +184,14 @@ module _ (n : ℕ) (t : Typed) (rules : RulesHold n t) (name : List ℕ) (id : �
   -- THE FILE THAT GOES: the tables without it meet the rules
   pub rules_deleted : RulesHold n (deleted names_test files_test blocks_test t)
   rules_deleted = record {
-    records = record { volume = rules.records.volume; settings = rules.records.settings; results = rules.records.results };
+    records = rules.records;
     names = record {
-      names = names_left t.names rules.names.names (other_names n t name id rules found);
-      once = once_left t.files rules.names.once;
+      names = names_hold t.names rules.names.names (other_names n t name id rules found);
+      once = once_hold t.files rules.names.once;
       few = omega (arith, rules.names.few, length_dropped name names_test one_name id t.names (splits name names_test one_name id t.names sorted found));
     };
-    files = files_left t.files rules.files;
-    extents = extents_left t.extents rules.extents;
+    files = each_where_key nat_cmp (FileHolds (next_id_of t)) files_test t.files rules.files;
+    extents = extents_hold t.extents rules.extents;
     clusters = once_kept (0, 0) (base_clusters t) blocks_test t.extents rules.clusters;
   }
 
@@ -218,49 +215,29 @@ module _ (n : ℕ) (t : Typed) (rules : RulesHold n t) (from to : List ℕ) (id 
   split : Splits from names_test one_name id (put bytes_cmp to id t.names)
   split = splits from names_test one_name id (put bytes_cmp to id t.names) (is_sorted-put bytes_cmp nat_list_cmp_total to id t.names sorted) found_still
 
-  names_kept : (names : List (List ℕ × ℕ)) → Each (NameHolds t) names → Each (NameHolds (renamed to id names_test t)) (where_key bytes_cmp names_test names)
-  names_kept [] each = tt
-  names_kept (e ∷ names) each =
-      let rest = names_kept names each.1 in
-      elim (names_test e.0) as (λ b. Each (NameHolds (renamed to id names_test t)) (cond b (e ∷ where_key bytes_cmp names_test names) (where_key bytes_cmp names_test names))) [
-        | true ↦ (record { lawful = each.0.lawful; names_file = each.0.names_file }, rest)
-        | false ↦ rest
-      ]
-
-  once_kept_too : (files : List (ℕ × FileRecord)) → Each (IsNamedOnce t) files → Each (IsNamedOnce (renamed to id names_test t)) files
-  once_kept_too [] each = tt
-  once_kept_too (e ∷ files) each =
-      let put_one = names_after_put e.0 id to t.names new in
-      let dropped = count_dropped from names_test one_name e.0 id (put bytes_cmp to id t.names) split in
-      (omega (arith, put_one, dropped, each.0), once_kept_too files each.1)
+  once_still : (x : ℕ) (file : FileRecord) → IsNamedOnce t.names x file → IsNamedOnce (renamed to id names_test t).names x file
+  once_still x file one =
+      let put_one = names_after_put x id to t.names new in
+      let dropped = count_dropped from names_test one_name x id (put bytes_cmp to id t.names) split in
+      omega (arith, put_one, dropped, one)
 
   -- THE NEW NAME: the tables meet the rules, also where there are as many files as there may be
   pub rules_renamed : RulesHold n (renamed to id names_test t)
   rules_renamed = record {
-    records = record { volume = rules.records.volume; settings = rules.records.settings; results = rules.records.results };
+    records = rules.records;
     names = record {
-      names = names_kept (put bytes_cmp to id t.names)
-          (each_put bytes_cmp exact_bytes (NameHolds t) to id t.names (record { lawful = lawful; names_file = file_there }) rules.names.names);
-      once = once_kept_too t.files rules.names.once;
+      names = each_where_key bytes_cmp (NameHolds t.files) names_test (put bytes_cmp to id t.names)
+          (each_put bytes_cmp exact_bytes (NameHolds t.files) to id t.names (record { lawful = lawful; names_file = file_there }) rules.names.names);
+      once = each_weaker (IsNamedOnce t.names) (IsNamedOnce (renamed to id names_test t).names) t.files once_still rules.names.once;
       few =
           let long = length-put bytes_cmp nat_list_cmp_total to id t.names sorted
           ∙ ap (λ (o : Option ℕ). cond (is_some o) (length t.names) (length t.names + 1)) new in
           omega (arith, long, length_dropped from names_test one_name id (put bytes_cmp to id t.names) split, rules.names.few);
     };
-    files = files_same t.files rules.files;
-    extents = extents_same t.extents rules.extents;
+    files = rules.files;
+    extents = rules.extents;
     clusters = rules.clusters;
   }
     where
       file_there : IsSome (find nat_cmp id t.files)
-      file_there = (each_found bytes_cmp exact_bytes (NameHolds t) from id t.names found rules.names.names).names_file
-
-      files_same : (files : List (ℕ × FileRecord)) → Each (FileHolds t) files → Each (FileHolds (renamed to id names_test t)) files
-      files_same [] each = tt
-      files_same (e ∷ files) each =
-          (let h = each.0 in record { some_id = h.some_id; drawn = h.drawn; short = h.short; no_map = h.no_map; no_cover = h.no_cover }, files_same files each.1)
-
-      extents_same : (es : List (FileBlock × Extent)) → Each (ExtentHolds n t) es → Each (ExtentHolds n (renamed to id names_test t)) es
-      extents_same [] each = tt
-      extents_same (e ∷ es) each =
-          (let h = each.0 in record { in_file = h.in_file; some_bytes = h.some_bytes; in_cluster = h.in_cluster; in_data = h.in_data }, extents_same es each.1)
+      file_there = (each_found bytes_cmp exact_bytes (NameHolds t.files) from id t.names found rules.names.names).names_file

@@ -17,7 +17,7 @@ use Rattle.volume_inside.specs.Bases.{uncovered_cell}
 use Rattle.volume_inside.specs.Inside.{Inside, inside_at}
 use Rattle.volume_inside.specs.View.{cell, cell_in, cells, cells_or_none, file_cells, named_cells, view}
 use Rattle.volume_inside.specs.Entries.{Each, each_found}
-use Rattle.volume_inside.specs.Rules.{RulesHold, NameHolds, FileHolds, FilesHold}
+use Rattle.volume_inside.specs.Rules.{next_id_of, RulesHold, NameHolds, FileHolds, FilesHold}
 use Rattle.volume_inside.specs.Laws.{IsWhole}
 use Rattle.volume_inside.proofs.Cells.{length-cells}
 
@@ -77,13 +77,13 @@ named_same i j (e ∷ names) same = λ k. (e.0, same.0 k) ∷ named_same i j nam
 -- ---- the file of a name
 
 -- what holds of the cells of each file that meets the rules, and of no cells, holds of the cells of any id
-of_file : (t : Typed) (image : List ℕ) (P : List Cell → Type 0) → P [] → ((id : ℕ) (file : FileRecord) → FileHolds t id file
-    → P (cells (inside_at t image) id file)) → FilesHold t → (id : ℕ) → P (file_cells (inside_at t image) id)
+of_file : (t : Typed) (image : List ℕ) (P : List Cell → Type 0) → P [] → ((id : ℕ) (file : FileRecord) → FileHolds (next_id_of t) id file
+    → P (cells (inside_at t image) id file)) → FilesHold (next_id_of t) t.files → (id : ℕ) → P (file_cells (inside_at t image) id)
 of_file t image P none some files id = by (find nat_cmp id t.files) refl
   where
     by : (o : Option FileRecord) → find nat_cmp id t.files ≡ o → P (cells_or_none (inside_at t image) id o)
     by None is = none
-    by (Some file) is = some id file (each_found nat_cmp nat_cmp-IsAntisymmetric (FileHolds t) id file t.files is files)
+    by (Some file) is = some id file (each_found nat_cmp nat_cmp-IsAntisymmetric (FileHolds (next_id_of t)) id file t.files is files)
 
 All-named : (i : Inside) (P : List ℕ × List Cell → Type 0) (names : List (List ℕ × ℕ))
     → Each (λ name id. P (name, file_cells i id)) names → All P (named_cells i names)
@@ -110,7 +110,7 @@ view_lawful n t image sorted rules =
       few = omega (arith, length-named i t.names, rules.names.few);
     }
   where
-    lawful : (names : List (List ℕ × ℕ)) → Each (NameHolds t) names → Each (λ name id. is_lawful name ≡ true) names
+    lawful : (names : List (List ℕ × ℕ)) → Each (NameHolds t.files) names → Each (λ name id. is_lawful name ≡ true) names
     lawful [] each = tt
     lawful (e ∷ names) each = (each.0.lawful, lawful names each.1)
 

@@ -6,7 +6,7 @@ use Rattle.table_records.specs.declared.jobs.JobKind.TheVariants.{Optimization, 
 use Rattle.table_records.specs.declared.records.ResultRecord.{ResultRecord}
 use Rattle.table_records.specs.declared.settings.Settings.{Settings}
 use Rattle.table_records.specs.Settings.{settings_bytes}
-use Rattle.volume_inside.specs.Typed.{Typed}
+use Rattle.volume_inside.specs.Typed.{Typed, typed_of}
 
 -- jobs are off, chunks are not compared byte by byte, and nothing is out of policy
 abbrev pub fresh_settings : Settings
@@ -25,11 +25,8 @@ abbrev pub no_result : ResultRecord
 no_result = record { second = 0; result = 0 }
 
 abbrev pub fresh_tables : Typed
-fresh_tables = record {
+fresh_tables = record (typed_of []) {
   volume = (tt, record { version = 1; next_id = 1 }) ∷ [];
-  names = [];
-  files = [];
-  extents = [];
   settings = (tt, fresh_settings) ∷ [];
   results = (Optimization, no_result) ∷ (GarbageCollection, no_result)
       ∷ (Scrubbing, no_result) ∷ (Unoptimization, no_result) ∷ [];

@@ -1,4 +1,5 @@
--- The rules of a volume's tables, each a fact of its own.
+-- The rules of a volume's tables, each a fact of its own over the tables that it reads: a change of another table leaves
+-- it as it stands.
 use Rattle.std.specs.Prelude.{◌≡◌, ◌⊎◌, ◌≤◌, ◌<◌, ◌+◌, ◌*◌, ◌-◌, ◌^◌, ℕ, Bool, true, List, length, Option, Some, None, IsSome, IsSomeAnd, ◌==◌}
 use Rattle.std.specs.List.{filter, list_all}
 use Rattle.std.specs.Ordering.{nat_cmp}
@@ -43,10 +44,11 @@ pub record AreSettings (s : Settings) : Type 0 where
 pub record IsResultRecord (r : ResultRecord) : Type 0 where
   pub known : r.result ≤ 6
 
-pub record RecordsHold (t : Typed) : Type 0 where
-  pub volume : IsSomeAnd (find single_cmp tt t.volume) IsVolumeRecord
-  pub settings : IsSomeAnd (find single_cmp tt t.settings) AreSettings
-  pub results : (kind : JobKind) → IsSomeAnd (find kind_cmp kind t.results) IsResultRecord
+pub record RecordsHold (volumes : List (Unit {0} × VolumeRecord)) (all : List (Unit {0} × Settings))
+    (ends : List (JobKind × ResultRecord)) : Type 0 where
+  pub volume : IsSomeAnd (find single_cmp tt volumes) IsVolumeRecord
+  pub settings : IsSomeAnd (find single_cmp tt all) AreSettings
+  pub results : (kind : JobKind) → IsSomeAnd (find kind_cmp kind ends) IsResultRecord
 
 abbrev pub id_after : Option VolumeRecord → ℕ
 id_after None = 0
@@ -59,34 +61,34 @@ next_id_of t = id_after (find single_cmp tt t.volume)
 -- ---- names
 
 -- a name is lawful, and its file is there
-pub record NameHolds (t : Typed) (name : List ℕ) (id : ℕ) : Type 0 where
+pub record NameHolds (files : List (ℕ × FileRecord)) (name : List ℕ) (id : ℕ) : Type 0 where
   pub lawful : is_lawful name ≡ true
-  pub names_file : IsSome (find nat_cmp id t.files)
+  pub names_file : IsSome (find nat_cmp id files)
 
 -- the names of a file
-abbrev pub names_of : ℕ → Typed → List (List ℕ × ℕ)
-names_of id t = filter (λ e. e.1 == id) t.names
+abbrev pub names_of : ℕ → List (List ℕ × ℕ) → List (List ℕ × ℕ)
+names_of id names = filter (λ e. e.1 == id) names
 
-abbrev pub IsNamedOnce : Typed → ℕ → FileRecord → Type 0
-IsNamedOnce t id file = length (names_of id t) ≡ 1
+abbrev pub IsNamedOnce : List (List ℕ × ℕ) → ℕ → FileRecord → Type 0
+IsNamedOnce names id file = length (names_of id names) ≡ 1
 
-pub record NamesHold (t : Typed) : Type 0 where
-  pub names : Each (NameHolds t) t.names
-  pub once : Each (IsNamedOnce t) t.files
-  pub few : length t.names ≤ MOST_FILES
+pub record NamesHold (all : List (List ℕ × ℕ)) (files : List (ℕ × FileRecord)) : Type 0 where
+  pub names : Each (NameHolds files) all
+  pub once : Each (IsNamedOnce all) files
+  pub few : length all ≤ MOST_FILES
 
 -- ---- files
 
--- an id that was drawn, a length that a file may have, and no base
-pub record FileHolds (t : Typed) (id : ℕ) (file : FileRecord) : Type 0 where
+-- an id that was drawn, where this one is next, a length that a file may have, and no base
+pub record FileHolds (next : ℕ) (id : ℕ) (file : FileRecord) : Type 0 where
   pub some_id : 1 ≤ id
-  pub drawn : id < next_id_of t
+  pub drawn : id < next
   pub short : file.length ≤ MOST_BYTES_OF_A_FILE
   pub no_map : file.map_row ≡ 0
   pub no_cover : file.covers ≡ 0
 
-abbrev pub FilesHold : Typed → Type 0
-FilesHold t = Each (FileHolds t) t.files
+abbrev pub FilesHold : ℕ → List (ℕ × FileRecord) → Type 0
+FilesHold next files = Each (FileHolds next) files
 
 -- ---- extents
 
@@ -95,18 +97,18 @@ abbrev pub LiesIn : FileBlock → Extent → Option FileRecord → Type 0
 LiesIn k e None = ⊥
 LiesIn k e (Some file) = 4096 * k.1 + e.valid ≤ file.length
 
-pub record ExtentHolds (n : ℕ) (t : Typed) (k : FileBlock) (e : Extent) : Type 0 where
-  pub in_file : LiesIn k e (find nat_cmp k.0 t.files)
+pub record ExtentHolds (n : ℕ) (files : List (ℕ × FileRecord)) (k : FileBlock) (e : Extent) : Type 0 where
+  pub in_file : LiesIn k e (find nat_cmp k.0 files)
   pub some_bytes : 1 ≤ e.valid
   pub in_cluster : e.valid ≤ 4096
   pub in_data : IsDataCluster n e.cluster
 
-abbrev pub ExtentsHold : ℕ → Typed → Type 0
-ExtentsHold n t = Each (ExtentHolds n t) t.extents
+abbrev pub ExtentsHold : ℕ → List (ℕ × FileRecord) → List (FileBlock × Extent) → Type 0
+ExtentsHold n files extents = Each (ExtentHolds n files) extents
 
 -- ---- clusters
 
--- no cluster is named twice
+-- no cluster is named twice, by whichever tables name clusters
 abbrev pub ClustersHold : Typed → Type 0
 ClustersHold t = IsOnce (clusters_of t)
 
@@ -114,10 +116,10 @@ ClustersHold t = IsOnce (clusters_of t)
 
 -- the rules of the tables of a volume of n clusters
 pub record RulesHold (n : ℕ) (t : Typed) : Type 0 where
-  pub records : RecordsHold t
-  pub names : NamesHold t
-  pub files : FilesHold t
-  pub extents : ExtentsHold n t
+  pub records : RecordsHold t.volume t.settings t.results
+  pub names : NamesHold t.names t.files
+  pub files : FilesHold (next_id_of t) t.files
+  pub extents : ExtentsHold n t.files t.extents
   pub clusters : ClustersHold t
 
 -- The map is one of a volume of n clusters: its pairs are well formed, and its tables meet the rules.
@@ -135,8 +137,9 @@ Broken k number rule later = ((k ≡ number) × (rule → ⊥)) ⊎ (rule × lat
 -- numbers between.
 abbrev pub IsLeastBroken : ℕ → Map → ℕ → Type 0
 IsLeastBroken n m k =
-    Broken k 1 (AllWellFormed m × RecordsHold (typed_of m))
-    (Broken k 2 (NamesHold (typed_of m))
-    (Broken k 3 (FilesHold (typed_of m))
-    (Broken k 5 (ExtentsHold n (typed_of m))
-    (Broken k 10 (ClustersHold (typed_of m)) ⊥))))
+    let t = typed_of m in
+    Broken k 1 (AllWellFormed m × RecordsHold t.volume t.settings t.results)
+    (Broken k 2 (NamesHold t.names t.files)
+    (Broken k 3 (FilesHold (next_id_of t) t.files)
+    (Broken k 5 (ExtentsHold n t.files t.extents)
+    (Broken k 10 (ClustersHold t) ⊥))))

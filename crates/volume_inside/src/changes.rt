@@ -14,7 +14,7 @@ ghost use Rattle.volume_inside.specs.View.{file_cells, view};
 ghost use Rattle.volume_inside.specs.Named.{clusters_of};
 ghost use Rattle.volume_inside.specs.Lists.{IsOnce};
 ghost use Rattle.volume_inside.specs.Entries.{Each};
-ghost use Rattle.volume_inside.specs.Rules.{FileHolds, ExtentHolds, RulesHold};
+ghost use Rattle.volume_inside.specs.Rules.{next_id_of, FileHolds, ExtentHolds, RulesHold};
 
 /// A file that is made with the next id, under a lawful name that no file has, keeps the rules.
 pub fn files_that_are_made_keep_the_rules()
@@ -44,13 +44,13 @@ pub fn files_that_are_renamed_keep_the_rules()
 /// Another record of a file that is there, in which its blocks lie, keeps the rules.
 pub fn records_in_which_blocks_lie_keep_the_rules()
     ensures { (n : ℕ) (t : Typed) (id : ℕ) (old file : FileRecord) → RulesHold n t →
-        find nat_cmp id t.files ≡ Some old → FileHolds t id file →
+        find nat_cmp id t.files ≡ Some old → FileHolds (next_id_of t) id file →
         Each (λ k e. k.0 ≡ id → 4096 * k.1 + e.valid ≤ file.length) t.extents → RulesHold n (with_file id file t) }
 {}
 
 /// An extent that meets its rule, over a cluster that is not named otherwise, keeps the rules.
 pub fn extents_over_their_own_clusters_keep_the_rules()
-    ensures { (n : ℕ) (t : Typed) (k : FileBlock) (e : Extent) → RulesHold n t → ExtentHolds n t k e →
+    ensures { (n : ℕ) (t : Typed) (k : FileBlock) (e : Extent) → RulesHold n t → ExtentHolds n t.files k e →
         IsOnce (clusters_of (with_extent k e t)) → RulesHold n (with_extent k e t) }
 {}
 

@@ -1,9 +1,9 @@
 //! The rules on one record at a time.
-ghost use Rattle.std.specs.Prelude.{◌≡◌, ◌↔◌, IsTrue};
+ghost use Rattle.std.specs.Prelude.{◌≡◌, ◌↔◌, ℕ, List, IsTrue};
 ghost use Rattle.std.specs.Ordering.{nat_cmp};
 ghost use Rattle.std.specs.FinMap.{find};
-ghost use Rattle.volume_inside.specs.Typed.{Typed};
-ghost use Rattle.volume_inside.specs.Rules.{IsVolumeRecord, AreSettings, are_lawful_texts, IsResultRecord, FileHolds, ExtentHolds, next_id_of};
+ghost use Rattle.table_records.specs.declared.records.FileRecord.{FileRecord};
+ghost use Rattle.volume_inside.specs.Rules.{IsVolumeRecord, AreSettings, are_lawful_texts, IsResultRecord, FileHolds, ExtentHolds};
 
 use crate::layout::is_data_cluster;
 use plain_volume::limits::MOST_BYTES_OF_A_FILE;
@@ -46,23 +46,24 @@ pub fn result_holds(end: ResultRecord) -> bool
     end.result <= 6
 }
 
-/// Whether a file meets the rules of files, in tables that draw `next_id` next.
+/// Whether a file meets the rules of files, where `next_id` is drawn next.
 pub fn file_holds(next_id: u64, id: u64, file: FileRecord) -> bool
-    ensures { (t : Typed) → next_id_of t ≡ next_id → (IsTrue result ↔ FileHolds t id file) }
+    ensures { IsTrue result ↔ FileHolds next_id id file }
 {
     let drawn = id >= 1 && id < next_id;
     drawn && file.length <= MOST_BYTES_OF_A_FILE && file.map_row == 0 && file.covers == 0
 }
 
-/// Whether an extent meets the rules of extents, in tables of an image of so many clusters that have this record of
-/// its file, if it is there.
+/// Whether an extent meets the rules of extents, in an image of so many clusters and among files that have this record
+/// of its own, if it is there.
 pub fn extent_holds(
     clusters: u32,
     file: Option<FileRecord>,
     key: (u64, u32),
     extent: Extent,
 ) -> bool
-    ensures { (t : Typed) → find nat_cmp key.0 t.files ≡ file → (IsTrue result ↔ ExtentHolds clusters t key extent) }
+    ensures { (files : List (ℕ × FileRecord)) → find nat_cmp key.0 files ≡ file
+        → (IsTrue result ↔ ExtentHolds clusters files key extent) }
 {
     match file {
         Some(file) => {

@@ -1,19 +1,18 @@
 -- What was found in the tables of an image makes the tables in memory.
-use Rattle.std.specs.Prelude.{◌≡◌, ◌≢◌, ◌⊎◌, ◌+◌, ◌-◌, ◌&&◌, ◌||◌, ℕ, Bool, true, false, T, List, [], ◌∷◌, Option, Some}
+use Rattle.std.specs.Prelude.{◌≡◌, ◌≢◌, ◌+◌, ◌-◌, ℕ, Bool, true, false, T, List, [], ◌∷◌, Option, Some}
 use Rattle.std.specs.Prelude.{IsSomeAnd, IsTrue, Err, refl}
-use Rattle.std.proofs.Common.{sym, ◌∙◌, ap, subst, inl, inr, arith}
+use Rattle.std.proofs.Common.{sym, ◌∙◌, ap, subst, arith}
 use Rattle.std.specs.declared.cmp.Ordering.TheVariants.{Less, Equal, Greater}
 use Rattle.std.specs.FinMap.Entries.{find, is_sorted, same_entries}
 use Rattle.byte_map.specs.Words.{Map, bytes_cmp}
 use Rattle.cluster_space.specs.declared.state.State.{State}
 use Rattle.cluster_space.specs.declared.state.State.TheVariants.{Free, Used, Deferred}
 use Rattle.cluster_space.specs.States.{IsIn}
-use Rattle.table_records.specs.Codecs.{Codec, typed, IsPairOf}
+use Rattle.table_records.specs.Codecs.{typed}
 use Rattle.table_records.specs.Keys.{single_cmp, kind_cmp}
 use Rattle.table_records.specs.Next.{sorted_typed}
 use Rattle.table_records.specs.Orders.{single_total, kind_total}
-use Rattle.table_records.specs.Tables.{volume_codec, name_codec, file_codec, extent_codec, settings_codec, result_codec}
-use Rattle.table_records.specs.WellFormed.{IsWellFormed, AllWellFormed}
+use Rattle.table_records.specs.Tables.{volume_codec, settings_codec, result_codec}
 use Rattle.table_records.specs.declared.jobs.JobKind.{JobKind}
 use Rattle.table_records.specs.declared.jobs.JobKind.TheVariants.{Optimization, GarbageCollection, Scrubbing}
 use Rattle.table_records.specs.declared.jobs.JobKind.TheVariants.{Unoptimization}
@@ -38,59 +37,11 @@ use Rattle.meta_log.specs.declared.fault.MetaFault.{MetaFault}
 use Rattle.meta_log.specs.declared.fault.MetaFault.TheVariants.{GroupFull, TableFull, Worn, Damaged}
 use Rattle.meta_log.specs.declared.fault.MetaFault.TheVariants.{Failed as MetaFailed, Memory as MetaMemory}
 use Rattle.volume_tables.specs.Mount.{ends_from, read_meta, IsLogFault, mount_fault_of}
-use Rattle.volume_tables.specs.Spelled.{is_pair_of, is_well_formed, are_well_formed}
-use Rattle.volume_tables.proofs.WellFormed.{or_left, or_right}
+use Rattle.volume_tables.proofs.Keyed.{test_of_all}
 
 holds_true : (b : Bool) → T b → b ≡ true
 holds_true true t = refl
 holds_true false t = absurd t
-
--- ---- pairs are well formed, as a test
-
-pair_test : {K V : Type 0} (c : Codec K V) (key value : List ℕ) → IsPairOf c key value → is_pair_of c key value ≡ true
-pair_test c key value pair = λ i. pair.spells i && pair.whole i
-
--- a pair of the table of settings, or of results; and so on, a table more each time
-abbrev of_settings : List ℕ → List ℕ → Bool
-of_settings k v = is_pair_of settings_codec k v || is_pair_of result_codec k v
-
-abbrev of_extents : List ℕ → List ℕ → Bool
-of_extents k v = is_pair_of extent_codec k v || of_settings k v
-
-abbrev of_files : List ℕ → List ℕ → Bool
-of_files k v = is_pair_of file_codec k v || of_extents k v
-
-abbrev of_names : List ℕ → List ℕ → Bool
-of_names k v = is_pair_of name_codec k v || of_files k v
-
-one_test : (key value : List ℕ) → IsWellFormed key value → is_well_formed key value ≡ true
-one_test k v (inl p) = or_left (is_pair_of volume_codec k v) (of_names k v) (pair_test volume_codec k v p)
-one_test k v (inr later) = or_right (is_pair_of volume_codec k v) (of_names k v) (names later)
-  where
-    settings : IsPairOf settings_codec k v ⊎ IsPairOf result_codec k v → of_settings k v ≡ true
-    settings (inl p) = or_left (is_pair_of settings_codec k v) (is_pair_of result_codec k v)
-        (pair_test settings_codec k v p)
-    settings (inr p) = or_right (is_pair_of settings_codec k v) (is_pair_of result_codec k v)
-        (pair_test result_codec k v p)
-
-    extents : IsPairOf extent_codec k v ⊎ (IsPairOf settings_codec k v ⊎ IsPairOf result_codec k v)
-        → of_extents k v ≡ true
-    extents (inl p) = or_left (is_pair_of extent_codec k v) (of_settings k v) (pair_test extent_codec k v p)
-    extents (inr later) = or_right (is_pair_of extent_codec k v) (of_settings k v) (settings later)
-
-    files : IsPairOf file_codec k v ⊎ (IsPairOf extent_codec k v
-        ⊎ (IsPairOf settings_codec k v ⊎ IsPairOf result_codec k v)) → of_files k v ≡ true
-    files (inl p) = or_left (is_pair_of file_codec k v) (of_extents k v) (pair_test file_codec k v p)
-    files (inr later) = or_right (is_pair_of file_codec k v) (of_extents k v) (extents later)
-
-    names : IsPairOf name_codec k v ⊎ (IsPairOf file_codec k v
-        ⊎ (IsPairOf extent_codec k v ⊎ (IsPairOf settings_codec k v ⊎ IsPairOf result_codec k v))) → of_names k v ≡ true
-    names (inl p) = or_left (is_pair_of name_codec k v) (of_files k v) (pair_test name_codec k v p)
-    names (inr later) = or_right (is_pair_of name_codec k v) (of_files k v) (files later)
-
-all_test : (m : Map) → AllWellFormed m → are_well_formed m ≡ true
-all_test [] all = refl
-all_test (e ∷ m) all = λ i. one_test e.0 e.1 all.0 i && all_test m all.1 i
 
 -- ---- tables of one key, and of the four kinds
 
@@ -138,7 +89,7 @@ pub contents_found : (n : ℕ) (m : Map) (r : Records) → T (is_sorted bytes_cm
     → HasContents m r.next_id r.settings (ends_from r.results)
 contents_found n m r sorted volume are = record {
   sorted = holds_true (is_sorted bytes_cmp m) sorted;
-  spelled = all_test m volume.spelled;
+  spelled = test_of_all m volume.spelled;
   volume = single_entry (typed volume_codec m) (volume_record r.next_id)
       (sorted_typed volume_codec m sorted) are.volume;
   settings_there = single_entry (typed settings_codec m) r.settings (sorted_typed settings_codec m sorted) are.settings;

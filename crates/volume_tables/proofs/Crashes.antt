@@ -31,7 +31,7 @@ use Rattle.volume_tables.specs.Ends.{all_staged}
 use Rattle.volume_tables.specs.Log.{log_now, log_state, IsLogOf}
 use Rattle.volume_tables.specs.Staging.{IsQuiet}
 use Rattle.volume_tables.specs.declared.ends.JobEnds.{JobEnds}
-use Rattle.volume_tables.specs.Tables.{disk_of, area_of, tables_now, inside_now, with_ends, IsTables, IsStoredAs}
+use Rattle.volume_tables.specs.Tables.{disk_of, area_of, tables_now, inside_now, with_ends, IsTables}
 use Rattle.volume_tables.specs.declared.tables.Tables.{Tables}
 use Rattle.volume_tables.proofs.Held.{held_apart, held_same}
 
@@ -149,18 +149,16 @@ module _ {D : Type 0} {d : Ghosts D} (t : Tables D d) (l : MetaLog D d) (quiet :
         → IsOut (first_data_cluster p.0 + k) (clusters_of stored)) (λ i. (sym clusters i, sym space i)) is.free;
   }
 
--- what is stored after a commit that answered Ok, once what was deferred is free
-module _ {D : Type 0} {d : Ghosts D} (t u s : Tables D d) where
-  pub committed : tables_now u ≡ tables_now t → u.clusters ≡ t.clusters → s.log ≡ u.log → tables_now s ≡ tables_now u
-      → s.clusters ≡ u.clusters
-      → IsStoredAs u (tables_now t) → IsTables s (tables_now t)
-  committed now clusters log still more is = record {
-    map = is.map;
-    log = subst (λ (l : MetaLog D d). IsLogOf l is.map) (sym log) is.log;
-    is = is.is;
-    stored_apart = subst (λ (q : Typed). IsApart journal_at (2 * half_bytes s.clusters) (named q)) (still ∙ now)
+-- what is stored after a commit that answered Ok
+module _ {D : Type 0} {d : Ghosts D} (t s : Tables D d) (m : Map) where
+  pub committed : IsLogOf s.log m → typed_of m ≡ tables_now t → tables_now s ≡ tables_now t → IsTables s (tables_now t)
+  committed log all now = record {
+    map = m;
+    log = log;
+    is = all;
+    stored_apart = subst (λ (q : Typed). IsApart journal_at (2 * half_bytes s.clusters) (named q)) now
         (held_apart s.clusters s.space (tables_now s)
         (held_same s.clusters s.space (typed_of (log_now s.log)) s.held (tables_now s) refl));
-    free = λ k at. subst (λ (q : Typed). IsOut (first_data_cluster s.clusters + k) (clusters_of q)) (still ∙ now)
+    free = λ k at. subst (λ (q : Typed). IsOut (first_data_cluster s.clusters + k) (clusters_of q)) now
         (s.held.1.free_now k at);
   }

@@ -172,9 +172,9 @@ held_dropped n states t held size test =
 module _ {D : Type 0} {d : Ghosts D} where
   -- a call that stages and frees no cluster
   pub drop_leaves : (t s : Tables D d) → IsQuiet t.log s.log → s.clusters ≡ t.clusters → IsNoFreer t.space s.space
-      → s.worn ≡ t.worn
+      → s.worn ≡ t.worn → s.ends ≡ t.ends
       → d.is_same t.log.disk t.log.disk → Leaves t s
-  drop_leaves t s quiet clusters fewer worn self = record {
+  drop_leaves t s quiet clusters fewer worn ends self = record {
     clusters = clusters;
     tables = λ stored is. record {
       map = is.map;
@@ -191,5 +191,6 @@ module _ {D : Type 0} {d : Ghosts D} where
     later = subst (λ (x : D). (disk_of t).faults ≤ (d.state x).faults) (sym quiet.disk) (omega arith);
     place = quiet.place.next;
     epoch = quiet.place.epoch;
+    ends = ends;
     worn = worn;
   }

@@ -9,7 +9,8 @@ use Rattle.std.specs.FinMap.Entries.{find, where_key, below_all, is_sorted, is_s
 use Rattle.byte_map.specs.Words.{first_of, next_in}
 use Rattle.table_records.specs.Changes.{is_in_range, is_under}
 use Rattle.table_records.specs.Keys.{pair_cmp}
-use Rattle.table_records.specs.Laws.{is_less, first_holds, second_holds, both_hold}
+use Rattle.groundwork.proofs.Orders.{is_less}
+use Rattle.groundwork.proofs.Bools.{first_true, second_true, both_true}
 use Rattle.table_records.specs.Orders.{pair_total}
 use Rattle.table_records.specs.declared.records.Extent.{Extent}
 use Rattle.volume_inside.specs.Typed.{FileBlock}
@@ -53,15 +54,15 @@ above_all : (k : FileBlock) (es : Entries) → T (below_all pair_cmp k es)
     → where_key pair_cmp (λ x. is_lt (pair_cmp k x)) es ≡ es
 above_all k [] low = refl
 above_all k (e ∷ es) low =
-    kept_first (λ x. is_lt (pair_cmp k x)) e es (ap is_lt (is_less (pair_cmp k e.0) (first_holds _ _ low)))
-    ∙ ap (λ (l : Entries). e ∷ l) (above_all k es (second_holds (is_lt (pair_cmp k e.0)) _ low))
+    kept_first (λ x. is_lt (pair_cmp k x)) e es (ap is_lt (is_less (pair_cmp k e.0) (first_true _ _ low)))
+    ∙ ap (λ (l : Entries). e ∷ l) (above_all k es (second_true (is_lt (pair_cmp k e.0)) _ low))
 
 from_all : (k : FileBlock) (es : Entries) → T (below_all pair_cmp k es)
     → where_key pair_cmp (λ x. is_le (pair_cmp k x)) es ≡ es
 from_all k [] low = refl
 from_all k (e ∷ es) low =
-    kept_first (λ x. is_le (pair_cmp k x)) e es (ap is_le (is_less (pair_cmp k e.0) (first_holds _ _ low)))
-    ∙ ap (λ (l : Entries). e ∷ l) (from_all k es (second_holds (is_lt (pair_cmp k e.0)) _ low))
+    kept_first (λ x. is_le (pair_cmp k x)) e es (ap is_le (is_less (pair_cmp k e.0) (first_true _ _ low)))
+    ∙ ap (λ (l : Entries). e ∷ l) (from_all k es (second_true (is_lt (pair_cmp k e.0)) _ low))
 
 low_above : (k : FileBlock) (es : Entries) → T
     (below_all pair_cmp k (where_key pair_cmp (λ x. is_lt (pair_cmp k x)) es))
@@ -71,7 +72,7 @@ low_above k (e ∷ es) =
     elim (is_lt (pair_cmp k e.0)) as (λ t. is_lt (pair_cmp k e.0) ≡ t
     → T (below_all pair_cmp k (cond t (e ∷ where_key pair_cmp (λ x. is_lt (pair_cmp k x)) es)
     (where_key pair_cmp (λ x. is_lt (pair_cmp k x)) es)))) [
-      | true ↦ λ t. both_hold (is_lt (pair_cmp k e.0)) _ (subst (λ (s : Bool). T s) (sym t) tt) rest
+      | true ↦ λ t. both_true (is_lt (pair_cmp k e.0)) _ (subst (λ (s : Bool). T s) (sym t) tt) rest
       | false ↦ λ t. rest
     ] refl
 
@@ -132,8 +133,8 @@ none_under : (to : Option FileBlock) (k : FileBlock) (es : Entries) → is_under
 none_under to k [] past low = refl
 none_under to k (e ∷ es) past low =
     gone_first (λ x. is_under pair_cmp to x) e es
-    (under_stays to k e.0 past (is_less (pair_cmp k e.0) (first_holds _ _ low)))
-    ∙ none_under to k es past (second_holds (is_lt (pair_cmp k e.0)) _ low)
+    (under_stays to k e.0 past (is_less (pair_cmp k e.0) (first_true _ _ low)))
+    ∙ none_under to k es past (second_true (is_lt (pair_cmp k e.0)) _ low)
 
 -- ---- the next extent of a range
 
@@ -152,10 +153,10 @@ module _ (a : FileBlock) (to : Option FileBlock) (es : Entries) (sorted : T (is_
         (is_sorted-where_key pair_cmp (λ x. is_lt (pair_cmp a x)) es sorted)
 
     low : T (below_all pair_cmp z.0 zs)
-    low = first_holds (below_all pair_cmp z.0 zs) _ order
+    low = first_true (below_all pair_cmp z.0 zs) _ order
 
     less : pair_cmp a z.0 ≡ Less
-    less = is_less (pair_cmp a z.0) (first_holds _ (below_all pair_cmp a zs)
+    less = is_less (pair_cmp a z.0) (first_true _ (below_all pair_cmp a zs)
         (subst (λ (l : Entries). T (below_all pair_cmp a l)) is (low_above a es)))
 
     behind : where_key pair_cmp (λ x. is_lt (pair_cmp z.0 x)) es ≡ zs
@@ -222,18 +223,18 @@ lower_find : (k y : FileBlock) (es : Entries) → pair_cmp k y ≡ Less → T (b
 lower_find k y [] before rise = refl
 lower_find k y (e ∷ es) before rise =
     ap (λ (r : Ordering). cond (is_eq r) (Some e.1) (find pair_cmp k es))
-    (pair_total.trans k y e.0 before (is_less (pair_cmp y e.0) (first_holds _ _ rise)))
-    ∙ lower_find k y es before (second_holds (is_lt (pair_cmp y e.0)) _ rise)
+    (pair_total.trans k y e.0 before (is_less (pair_cmp y e.0) (first_true _ _ rise)))
+    ∙ lower_find k y es before (second_true (is_lt (pair_cmp y e.0)) _ rise)
 
 -- the entries from a key that is found on
 from_found : (k : FileBlock) (o : Extent) (es : Entries) → T (is_sorted pair_cmp es) → find pair_cmp k es ≡ Some o
     → where_key pair_cmp (λ x. is_le (pair_cmp k x)) es ≡ (k, o) ∷ where_key pair_cmp (λ x. is_lt (pair_cmp k x)) es
 from_found k o [] sorted found = absurd (let clash : None ≡ Some o = found in cc)
 from_found k o (e ∷ es) sorted found =
-    by (pair_cmp k e.0) refl found (λ at. from_found k o es (second_holds (below_all pair_cmp e.0 es) _ sorted) at)
+    by (pair_cmp k e.0) refl found (λ at. from_found k o es (second_true (below_all pair_cmp e.0 es) _ sorted) at)
   where
     low : T (below_all pair_cmp e.0 es)
-    low = first_holds (below_all pair_cmp e.0 es) _ sorted
+    low = first_true (below_all pair_cmp e.0 es) _ sorted
 
     by : (r : Ordering) → pair_cmp k e.0 ≡ r → cond (is_eq r) (Some e.1) (find pair_cmp k es) ≡ Some o
         → (find pair_cmp k es ≡ Some o → where_key pair_cmp (λ x. is_le (pair_cmp k x)) es ≡ (k, o) ∷ where_key pair_cmp

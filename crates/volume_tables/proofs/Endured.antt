@@ -36,7 +36,7 @@ module _ {D : Type 0} {d : Ghosts D} where
       → ((stored : Typed) (w : Volume) → IsTables a stored → Kept (area_of a) (disk_of a) w → stopped b ≡ false
       → GoesOn a b stored w)
       → (disk_of a).faults ≤ (disk_of b).faults → IsSameLog a.log b.log → log_epoch a.log ≤ log_epoch b.log
-      → (stopped b ≡ false → log_epoch b.log ≤ log_epoch a.log + 1) → (b.worn ≡ true → IsTrue (would_wear a))
+      → (stopped b ≡ false → log_epoch b.log ≤ log_epoch a.log + 1) → (stopped b ≡ false → b.worn ≡ true → IsTrue (would_wear a))
       → Endures a b
   endures_room a b clusters moments goes_on later same stands epoch tires = record {
     clusters = clusters;
@@ -50,7 +50,7 @@ module _ {D : Type 0} {d : Ghosts D} where
     same = same;
     stands = stands;
     epoch = epoch;
-    worn = λ runs worn. tires worn;
+    worn = tires;
   }
     where
       by : (w : Volume) (stored : Typed) → IsTables b stored → Kept (area_of a) (disk_of b) w → IsKept b w

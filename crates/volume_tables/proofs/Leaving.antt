@@ -1,6 +1,6 @@
 -- Calls that make nothing durable, one after another.
 use Rattle.std.specs.Prelude.{◌≡◌, ◌≢◌, ◌≤◌, ◌<◌, ◌+◌, ◌-◌, ◌*◌, ℕ, true, false, cond, nat_eq, if◌then◌else◌, List, []}
-use Rattle.std.specs.Prelude.{◌∷◌, ◌++◌, length, slice_set, Option, Some, None}
+use Rattle.std.specs.Prelude.{◌∷◌, ◌++◌, length, slice_set, slice_index_or, Option, Some, None, Result}
 use Rattle.std.proofs.Common.{sym, ◌∙◌, ap, subst, inl, inr, arith, length-set}
 use Rattle.std.proofs.lemmas.Bool.{cases_eq}
 use Rattle.std.proofs.lemmas.List.{get_or-set_same, get_or-set_other}
@@ -13,6 +13,7 @@ use Rattle.cluster_space.specs.declared.state.State.TheVariants.{Free, Used, Def
 use Rattle.cluster_space.specs.States.{IsIn}
 use Rattle.meta_log.specs.Meta.{meta_of}
 use Rattle.meta_log.specs.declared.log.MetaLog.{MetaLog}
+use Rattle.plain_volume.specs.declared.call.Fault.{Fault}
 use Rattle.table_records.specs.Keys.{pair_cmp}
 use Rattle.table_records.specs.Next.{sorted_typed}
 use Rattle.table_records.specs.Tables.{extent_codec}
@@ -30,10 +31,9 @@ use Rattle.volume_inside.proofs.Spaces.{named_used, found_in, replaced_unnamed}
 use Rattle.volume_tables.specs.Log.{log_state, log_now, log_place, log_epoch, IsLogOf}
 use Rattle.volume_tables.specs.Clusters.{HasState, AreHeld, used_at, deferred_at, deferred_unless, with_replaced}
 use Rattle.volume_tables.specs.Clusters.{with_refused}
-use Rattle.volume_tables.specs.Tables.{disk_of, area_of, states_of, tables_now, Leaves}
+use Rattle.volume_tables.specs.Tables.{disk_of, area_of, states_of, tables_now, Leaves, IsSet, IsLogSet}
 use Rattle.volume_tables.specs.declared.tables.Tables.{Tables}
 use Rattle.volume_tables.proofs.Answers.{as_true}
-use Rattle.volume_tables.proofs.Writing.{still}
 
 used_is_not_free : Used ≢ Free
 used_is_not_free same = cc
@@ -42,6 +42,19 @@ pub deferred_is_not_free : Deferred ≢ Free
 deferred_is_not_free same = cc
 
 -- ---- states
+
+-- a state that one cluster did not get is one that some cluster had
+still : (states : List State) (k j : ℕ) (s r : State) → k < length states → s ≢ r → IsIn (slice_set states k s) j r
+    → IsIn states j r
+still states k j s r within differ is = elim (cases_eq j k) [
+  | inl same ↦ absurd (differ (sym (get_or-set_same states k s Used within)
+      ∙ ap (λ (i : ℕ). slice_index_or (slice_set states k s) i Used) (sym same) ∙ is.state))
+  | inr other ↦ record {
+    within = omega (arith, is.within, length-set states k s);
+    state = sym
+        (get_or-set_other states k j s Used other) ∙ is.state;
+  }
+]
 
 -- each cluster that is free was free
 abbrev pub IsNoFreer : List State → List State → Type 0
@@ -128,9 +141,9 @@ module _ {D : Type 0} {d : Ghosts D} where
   area_same a b clusters = λ i. record { clusters = clusters i; meta = meta_of journal_at (half_bytes (clusters i)) }
 
   -- a call of the space alone
-  pub space_leaves : (a b : Tables D d) → b.log ≡ a.log → b.clusters ≡ a.clusters → b.worn ≡ a.worn → (new : List State)
-      → states_of b ≡ new → IsNoFreer (states_of a) new → d.is_same a.log.disk a.log.disk → Leaves a b
-  space_leaves a b log clusters worn new is_new fewer self = record {
+  pub space_leaves : (a b : Tables D d) → b.log ≡ a.log → b.clusters ≡ a.clusters → b.ends ≡ a.ends → b.worn ≡ a.worn
+      → (new : List State) → states_of b ≡ new → IsNoFreer (states_of a) new → d.is_same a.log.disk a.log.disk → Leaves a b
+  space_leaves a b log clusters ends worn new is_new fewer self = record {
     clusters = clusters;
     tables = λ stored is. record {
       map = is.map;
@@ -147,6 +160,7 @@ module _ {D : Type 0} {d : Ghosts D} where
     later = subst (λ (l : MetaLog D d). (disk_of a).faults ≤ (log_state l).faults) (sym log) (omega arith);
     place = ap (λ (l : MetaLog D d). log_place l) log;
     epoch = ap (λ (l : MetaLog D d). log_epoch l) log;
+    ends = ends;
     worn = worn;
   }
 
@@ -167,6 +181,7 @@ module _ {D : Type 0} {d : Ghosts D} where
     later = omega (arith, first.later, second.later);
     place = second.place ∙ first.place;
     epoch = second.epoch ∙ first.epoch;
+    ends = second.ends ∙ first.ends;
     worn = second.worn ∙ first.worn;
   }
 
@@ -184,3 +199,13 @@ module _ {D : Type 0} {d : Ghosts D} where
         subst (λ (p : ℕ × List State). HasState p.0 p.1 Used o.cluster) (λ i. (sym clusters i, sym states i)) used,
         subst (λ (q : Typed). IsOut o.cluster (clusters_of q)) (sym set) out,
       )
+
+  -- what setting an extent does to the journal, between two calls of the space alone
+  pub set_then : (a b u c : Tables D d) (k : FileBlock) (result : Result (Unit {0}) Fault)
+      → tables_now b ≡ tables_now a → b.clusters ≡ a.clusters → b.log ≡ a.log → c.log ≡ u.log
+      → IsSet (find pair_cmp k (tables_now b).extents) 24 b u result
+      → IsSet (find pair_cmp k (tables_now a).extents) 24 a c result
+  set_then a b u c k result tables clusters before after set =
+      subst (λ (x : (Typed × ℕ) × (MetaLog D d × MetaLog D d)).
+      IsLogSet (find pair_cmp k x.0.0.extents) 24 x.0.1 x.1.0 x.1.1 result)
+      (λ i. ((tables i, clusters i), (before i, sym after i))) set

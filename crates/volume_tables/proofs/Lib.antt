@@ -13,13 +13,10 @@ pub mod Held
 pub mod Dropping
 pub mod Deferring
 pub mod Crashes
-pub mod Framing
-pub mod Writing
 pub mod Committing
 pub mod Leaving
 pub mod Told
 pub mod Freed
-pub mod Blocks
 pub mod Setting
 pub mod Ending
 pub mod Lawful
@@ -40,5 +37,7 @@ pub mod Endured
 pub mod Spared
 pub mod Wanted
 pub mod Stagings
+pub mod RangeEnds
+pub mod Pended
 pub mod Rereads
 pub mod Finished

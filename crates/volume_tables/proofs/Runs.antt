@@ -1,5 +1,5 @@
 -- Neighbouring free clusters are written at once.
-use Rattle.std.specs.Prelude.{◌≡◌, ◌⊎◌, ◌≤◌, ◌<◌, ◌+◌, ◌*◌, ◌-◌, ℕ, List, [], ◌∷◌, ◌++◌, length, take, refl}
+use Rattle.std.specs.Prelude.{◌≡◌, ◌⊎◌, ◌≤◌, ◌<◌, ◌+◌, ◌*◌, ◌-◌, ℕ, List, [], ◌∷◌, ◌++◌, take}
 use Rattle.std.proofs.Common.{sym, ◌∙◌, ap, subst, inl, inr, arith}
 use Rattle.std.proofs.lemmas.Bool.{cases_lt}
 use Rattle.vdisk.specs.Disk.{DiskState, ChangedWithin}
@@ -7,7 +7,6 @@ use Rattle.vdisk.specs.Ranges.{part, part_apart, part_part}
 use Rattle.vdisk.specs.Steps.{Keeps, TornWithin}
 use Rattle.vdisk.specs.declared.disk.Disk.{Ghosts}
 use Rattle.cluster_space.specs.declared.run.Run.{Run}
-use Rattle.meta_log.specs.Meta.{meta_of}
 use Rattle.meta_log.proofs.Lives.{meta_same}
 use Rattle.plain_volume.specs.Volume.{Volume}
 use Rattle.table_records.specs.declared.records.Extent.{Extent}
@@ -20,8 +19,7 @@ use Rattle.volume_inside.specs.Lists.{IsOut}
 use Rattle.volume_inside.specs.Named.{named, clusters_of, extent_clusters, extent_ranges}
 use Rattle.volume_inside.specs.Ranges.{IsApart}
 use Rattle.volume_inside.specs.Shows.{Shows, Kept}
-use Rattle.volume_inside.specs.Typed.{Typed, FileBlock, typed_of}
-use Rattle.volume_tables.specs.Clusters.{HasState}
+use Rattle.volume_inside.specs.Typed.{Typed, FileBlock}
 use Rattle.volume_tables.specs.Frames.{AreFree, NamesNoFree}
 use Rattle.volume_tables.specs.Tables.{disk_of, area_of, states_of, tables_now, IsTables}
 use Rattle.volume_tables.specs.declared.tables.Tables.{Tables}

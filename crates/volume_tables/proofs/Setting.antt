@@ -1,6 +1,6 @@
 -- What setters do and leave.
 use Rattle.std.specs.Prelude.{◌≡◌, ◌≢◌, ◌≤◌, ◌+◌, ◌*◌, ℕ, List, length, T, Option, Some, None, IsSome, IsOk, Result}
-use Rattle.std.specs.Prelude.{OnOk, is_some, true, refl}
+use Rattle.std.specs.Prelude.{OnOk, OnErr, is_some, true, refl}
 use Rattle.std.proofs.Common.{sym, ◌∙◌, ap, subst, inl, inr, arith}
 use Rattle.std.specs.Option.{option_map}
 use Rattle.std.proofs.lemmas.Result.{on_ok_weaker, on_err_weaker}
@@ -44,8 +44,8 @@ use Rattle.volume_tables.proofs.WellFormed.{IsEntryTable, volume_table, checkpoi
 module _ {D : Type 0} {d : Ghosts D} where
   -- a call that stages, and leaves the states of the clusters
   pub quiet_leaves : (t s : Tables D d) → IsQuiet t.log s.log → s.clusters ≡ t.clusters → s.space ≡ t.space
-      → s.worn ≡ t.worn → d.is_same t.log.disk t.log.disk → Leaves t s
-  quiet_leaves t s quiet clusters space worn self = record {
+      → s.worn ≡ t.worn → s.ends ≡ t.ends → d.is_same t.log.disk t.log.disk → Leaves t s
+  quiet_leaves t s quiet clusters space worn ends self = record {
     clusters = clusters;
     tables = λ stored is. record {
       map = is.map;
@@ -62,6 +62,7 @@ module _ {D : Type 0} {d : Ghosts D} where
     later = subst (λ (x : D). (disk_of t).faults ≤ (d.state x).faults) (sym quiet.disk) (omega arith);
     place = quiet.place.next;
     epoch = quiet.place.epoch;
+    ends = ends;
     worn = worn;
   }
 
@@ -166,6 +167,9 @@ module _ {D : Type 0} {d : Ghosts D} where
         on_ok_weaker result (λ put. ap (λ (x : Typed). with_ends t.ends x) (means put)
         ∙ through (typed_of (log_now t.log))) (as_put c k v t.log log result p)
 
+    pub entry_kept : OnErr result (with_ends t.ends (typed_of (log_now log)) ≡ tables_now t)
+    entry_kept = on_err_weaker result (λ same. ap (λ (m : Map). with_ends t.ends (typed_of m)) same) p.err
+
   -- what holds of the journal after entries were dropped
   module _ {K V : Type 0} (c : Codec K V) (t : Tables D d) (log : MetaLog D d) (from : K) (to : Option K)
       (p : IsStagedDrop c from to t.log log) where
@@ -185,6 +189,9 @@ module _ {D : Type 0} {d : Ghosts D} where
         → typed_of (log_now log) ≡ f (typed_of (log_now t.log))
         → with_ends t.ends (typed_of (log_now log)) ≡ f (tables_now t)
     drop_now f through means = ap (λ (x : Typed). with_ends t.ends x) means ∙ through (typed_of (log_now t.log))
+
+  pub drop_image : (t : Tables D d) (log : MetaLog D d) → IsQuiet t.log log → (d.state log.disk).image ≡ (disk_of t).image
+  drop_image t log quiet = ap (λ (x : D). (d.state x).image) quiet.disk
 
   -- the volume's record is put in its place
   module _ (t : Tables D d) (log : MetaLog D d) (n : ℕ) (result : Result (Unit {0}) Fault)

@@ -33,7 +33,8 @@ use Rattle.volume_tables.specs.Staging.{IsStagedPut}
 use Rattle.volume_tables.specs.Tables.{tables_now, IsResized}
 use Rattle.volume_tables.specs.declared.tables.Tables.{Tables}
 use Rattle.volume_tables.proofs.Answers.{as_true, true_as}
-use Rattle.volume_tables.proofs.Keyed.{second_is, is_setting}
+use Rattle.table_records.proofs.Belongs.{own_pair, settings_are_table}
+use Rattle.volume_tables.proofs.Keyed.{second_is}
 use Rattle.volume_tables.proofs.Kept.{put_spelled}
 use Rattle.volume_tables.proofs.Puts.{settings_put}
 use Rattle.volume_tables.proofs.SettingsSize.{value_size}
@@ -68,7 +69,7 @@ settings_grown m s was sorted all there key value spells whole means = by (find 
     by (Some w) found is =
         let same : Some (settings_or_none w) ≡ Some was = subst
         (λ (o : Option (List ℕ)). option_map settings_or_none o ≡ Some was) found is in
-        let pair = is_setting key w (found_well_formed key w m all found) (settings_codec.numbered key tt spells) in
+        let pair = own_pair settings_codec settings_are_table key w (found_well_formed key w m all found) (settings_codec.numbered key tt spells) in
         let old_size = value_size w was (second_is (is_some (settings_codec.read_key key)) (is_settings w) pair)
         (some_same (settings_or_none w) was same) in
         let new_size = value_size value s whole means in

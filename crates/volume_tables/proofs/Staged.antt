@@ -62,3 +62,8 @@ handed_ok P r result is p = subst (λ (a : Result (Unit {0}) Fault). OnOk a P) (
 pub handed_err : (P : Type 0) (r : Result (Unit {0}) MetaFault) (result : Result (Unit {0}) Fault)
     → result ≡ answer_of r → OnErr r P → OnErr result P
 handed_err P r result is p = subst (λ (a : Result (Unit {0}) Fault). OnErr a P) (sym is) (answer_err P r p)
+
+-- and where the tables answered Ok, the journal did
+pub handed_back : (P : Type 0) (r : Result (Unit {0}) MetaFault) (u : Unit {0}) → Ok u ≡ answer_of r → OnOk r P → P
+handed_back P (Ok v) u is p = p
+handed_back P (Err e) u is p = absurd (cc)

@@ -1,23 +1,20 @@
 -- Where the journal of the tables goes on, as the images tell it, and what a commit spends.
-use Rattle.std.specs.Prelude.{◌≡◌, ◌+◌, ◌&&◌, ℕ, Bool, true, List, Ok, refl}
+use Rattle.std.specs.Prelude.{◌≡◌, ◌&&◌, ℕ, Bool, true, List, Ok, refl}
 use Rattle.std.proofs.Common.{sym, ◌∙◌, ap, arith}
 use Rattle.std.proofs.lemmas.Bool.{eq-eqb}
 use Rattle.vdisk.specs.declared.disk.Disk.{Ghosts}
 use Rattle.meta_log.specs.Log as journal
 use Rattle.meta_log.specs.Meta.{meta_of, place_in, epoch_in}
 use Rattle.meta_log.specs.Ready.{GoesOnFrom}
-use Rattle.meta_log.specs.declared.log.MetaLog.{MetaLog}
 use Rattle.meta_log.proofs.Lives.{image_goes_on, stands_goes_on, image_spells, stands_spells}
 use Rattle.table_records.specs.declared.records.ResultRecord.{ResultRecord}
 use Rattle.table_rules.specs.declared.records.LastResults.{LastResults}
-use Rattle.volume_inside.specs.Layout.{journal_at, half_bytes}
 use Rattle.volume_inside.specs.Typed.{Typed}
 use Rattle.volume_tables.specs.Ends.{same_result, one_unless, unstaged, unstaged_in}
-use Rattle.volume_tables.specs.Log.{log_state, log_staged, log_place, log_epoch}
+use Rattle.volume_tables.specs.Log.{log_state, log_place, log_epoch}
 use Rattle.volume_tables.specs.Mount.{settled, ends_from}
 use Rattle.volume_tables.specs.Mounted.{AreTablesOf}
-use Rattle.volume_tables.specs.Staging.{IsQuiet}
-use Rattle.volume_tables.specs.Tables.{disk_of, due_of, epochs_due, IsToldBy, IsTables}
+use Rattle.volume_tables.specs.Tables.{disk_of, IsToldBy, IsTables}
 use Rattle.volume_tables.specs.declared.tables.Tables.{Tables}
 
 module _ {D : Type 0} {d : Ghosts D} (t : Tables D d) where
@@ -53,27 +50,6 @@ module _ {D : Type 0} {d : Ghosts D} (t : Tables D d) where
       → AreTablesOf t.clusters c stored
   held_by_crash stored is c left =
       held stored is c (stands_spells (journal.layout_of t.log) (log_state t.log) is.map is.log.stands c left)
-
-  -- once the ends of jobs were staged the journal says of a commit what the tables say
-  module _ (l : MetaLog D d) (quiet : IsQuiet t.log l) (due : log_staged l ≡ due_of t) where
-    abbrev HasSpent : MetaLog D d → Type 0
-    HasSpent after =
-        epoch_in journal_at (half_bytes t.clusters) (log_state after).image
-        ≡ epoch_in journal_at (half_bytes t.clusters) (disk_of t).image
-        + journal.epochs_for (half_bytes t.clusters)
-        (place_in journal_at (half_bytes t.clusters) (disk_of t).image) (due_of t)
-
-    pub epochs_same : l.epoch + journal.epochs_taken l ≡ log_epoch t.log + epochs_due t
-    epochs_same = λ i. quiet.place.epoch i + journal.epochs_for (quiet.place.half i) (quiet.place.next i) (due i)
-
-    pub spent_same : (after : MetaLog D d) → journal.HasSpentEpochs l after → HasSpent after
-    spent_same after spent =
-        let at : l.at ≡ journal_at = quiet.place.at ∙ t.place in
-        let half : l.half ≡ half_bytes t.clusters = quiet.place.half ∙ t.half in
-        let before : (log_state l).image ≡ (disk_of t).image = λ i. (d.state (quiet.disk i)).image in
-        sym (λ i. epoch_in (at i) (half i) (log_state after).image) ∙ spent
-        ∙ (λ i. epoch_in (at i) (half i) (before i)
-        + journal.epochs_for (half i) (place_in (at i) (half i) (before i)) (due i))
 
 -- ---- no end of a job that was read is left to be staged
 

@@ -1,5 +1,7 @@
 -- What is wanting for a call, and the replies that follow from it.
-use Rattle.std.specs.Prelude.{◌≡◌, ◌⊎◌, ◌≤◌, ◌<◌, ◌+◌, ◌&&◌, ℕ, Bool, true, false, not, cond, nat_eq, nat_le, nat_lt, IsTrue, length, Option, Some, None, Result, Ok, Err, OnOk, OnErr, IfErr, IsOk, IsErrOf, refl}
+use Rattle.std.specs.Prelude.{◌≡◌, ◌⊎◌, ◌≤◌, ◌<◌, ◌+◌, ◌&&◌, if◌then◌else◌, ℕ, Bool, true, false, not, cond, nat_eq, nat_le, nat_lt, IsTrue, length, Option, Some, None, Result, Ok, Err, OnOk, OnErr, IfErr, IsOk, IsErrOf, refl}
+use Rattle.std.proofs.lemmas.Bool.{cases_lt}
+use Rattle.std.proofs.lemmas.Result.{on_ok_weaker}
 use Rattle.std.proofs.Common.{inl, inr, sym, ◌∙◌, ap, subst, ⊎_elim, arith, leb-true, le-leb, ltb-true, ltb-false, lt-ltb, le-ltb, eqb-true, eq-eqb}
 use Rattle.vdisk.specs.Causes.{Rose}
 use Rattle.vdisk.specs.declared.disk.Disk.{Ghosts}
@@ -14,11 +16,15 @@ use Rattle.volume_inside.specs.Layout.{half_bytes, data_clusters}
 use Rattle.volume_inside.specs.Named.{clusters_of}
 use Rattle.volume_inside.specs.Rules.{next_id_of, RulesHold}
 use Rattle.volume_inside.specs.Typed.{Typed}
-use Rattle.volume_tables.specs.Log.{log_epoch}
-use Rattle.volume_tables.specs.Tables.{tables_now, states_of, staged_of, checkpoint_of, clusters_in, disk_of, stopped, would_wear, epochs_due, IsRoomFor}
+use Rattle.meta_log.specs.Log.{epochs_for}
+use Rattle.volume_tables.specs.Log.{log_epoch, log_place}
+use Rattle.volume_tables.specs.Pending.{Pending, committed, worn_out, pending_of, after_commit, committed_of, roomed_of, worn_of}
+use Rattle.volume_tables.specs.Tables.{tables_now, states_of, staged_of, checkpoint_of, clusters_in, disk_of, stopped, due_of, would_wear, IsRoomFor}
 use Rattle.volume_tables.specs.declared.tables.Tables.{Tables}
 use Rattle.volume_tables.specs.Sound.{IsSound}
+use Rattle.volume_tables.proofs.Roomed.{commit_left}
 use Rattle.volume_tables.proofs.Spared.{rises}
+use Rattle.volume_tables.proofs.Stagings.{on_ok_any}
 use Rattle.volume_tables.specs.Wants.{Needs, last_id, free_of, has_room, wanting, is_late, reply_of, IsReplied, IsWanting}
 
 -- ---- replies
@@ -111,19 +117,63 @@ module _ {D : Type 0} {d : Ghosts D} (t : Tables D d) (n : Needs) where
   pub free_counted : IsSound t → stopped t ≡ false → free_of t ≡ free_in (states_of t) + deferred_in (states_of t)
   free_counted sound runs = let counted = sound.counted runs in omega (arith, counted)
 
-  -- the epoch where room is ensured: it rises where a commit came first, and stands otherwise
-  pub stands_by_room : (u : Tables D d) (r : Result (Unit {0}) Fault)
-      → ((IsRoomFor t n.records n.clusters → ⊥) → OnOk r (log_epoch u.log ≡ log_epoch t.log + epochs_due t))
-      → OnErr r (log_epoch u.log ≡ log_epoch t.log) → (IsRoomFor t n.records n.clusters → u ≡ t)
-      → log_epoch t.log ≤ log_epoch u.log
-  stands_by_room u r spends same at_once = by (has_room t n) refl
+  -- The tables where room is ensured: they are as they were, or were committed, where there was no room.
+  module _ (u : Tables D d) (r : Result (Unit {0}) Fault) (at_once : IsRoomFor t n.records n.clusters → u ≡ t)
+      (first : (IsRoomFor t n.records n.clusters → ⊥) → OnOk r (pending_of u ≡ after_commit t)) where
+    pub roomed : free_of t ≡ free_in (states_of t) + deferred_in (states_of t) → OnOk r (pending_of u ≡ roomed_of t n)
+    roomed count = by (has_room t n) refl
+      where
+        by : (b : Bool) → has_room t n ≡ b → OnOk r (pending_of u ≡ roomed_of t n)
+        by true has = on_ok_any r (ap (λ (x : Tables D d). pending_of x) (at_once (room_there has))
+            ∙ sym (ap (λ (b : Bool). if b then pending_of t else committed_of t) has))
+        by false has = on_ok_weaker r (λ done. done ∙ sym (ap (λ (k : ℕ). committed (half_bytes (clusters_in t)) (checkpoint_of t) k (pending_of t)) count)
+            ∙ sym (ap (λ (b : Bool). if b then pending_of t else committed_of t) has)) (first (no_room_there has))
+
+    -- the epoch rises where a commit came first, and stands otherwise
+    pub stands_by_room : OnErr r (log_epoch u.log ≡ log_epoch t.log) → log_epoch t.log ≤ log_epoch u.log
+    stands_by_room same = by (has_room t n) refl
+      where
+        by : (b : Bool) → has_room t n ≡ b → log_epoch t.log ≤ log_epoch u.log
+        by true has =
+            let is : log_epoch u.log ≡ log_epoch t.log = ap (λ (x : Tables D d). log_epoch x.log) (at_once (room_there has)) in
+            omega (arith, is)
+        by false has =
+            rises r (log_epoch t.log) (log_epoch u.log) (epochs_for (half_bytes (clusters_in t)) (log_place t.log) (due_of t))
+            (on_ok_weaker r (λ done. ap (λ (p : Pending). p.epoch) done) (first (no_room_there has))) same
+
+    -- What waits, unless the device failed: all as before, or nothing, or all that was due is staged. What holds of
+    -- these holds of what waits.
+    pub room_left : (free_in (states_of t) + deferred_in (states_of t) < n.clusters → u ≡ t)
+        → (n.clusters ≤ free_in (states_of t) + deferred_in (states_of t) → OnErr r (IsErrOf r Worn ⊎ IsErrOf r Failed))
+        → (IsErrOf r Failed → stopped u ≡ true) → (IsErrOf r Worn → pending_of u ≡ worn_out (pending_of t))
+        → (IsErrOf r Worn → IsTrue (would_wear t))
+        → (P : Pending → Type 0) → P (pending_of t) → P (after_commit t)
+        → (IsTrue (would_wear t) → P (worn_out (pending_of t))) → stopped u ≡ false → P (pending_of u)
+    room_left untouched fits failed tired worn P same done tiring runs = by (has_room t n) refl
+      where
+        by : (b : Bool) → has_room t n ≡ b → P (pending_of u)
+        by true has = subst (λ (x : Tables D d). P (pending_of x)) (sym (at_once (room_there has))) same
+        by false has = elim (cases_lt (free_in (states_of t) + deferred_in (states_of t)) n.clusters) [
+          | inl few ↦ subst (λ (x : Tables D d). P (pending_of x)) (sym (untouched few)) same
+          | inr enough ↦ commit_left t u r (fits enough) failed (first (no_room_there has)) tired worn P done tiring runs
+        ]
+
+  -- what a refusal as worn leaves
+  abbrev worn_where : Bool → Pending
+  worn_where b = if b then pending_of t else worn_out (pending_of t)
+
+  pub worn_at_once : n.draws ≡ true → next_id_of (tables_now t) ≡ last_id → pending_of t ≡ worn_of t n
+  worn_at_once draws last = sym (ap worn_where
+      (is_and n.draws (nat_eq (next_id_of (tables_now t)) last_id) draws (eq-eqb (next_id_of (tables_now t)) last_id last)))
+
+  pub worn_by_commit : (n.draws ≡ true → next_id_of (tables_now t) ≡ last_id → ⊥) → (q : Pending)
+      → q ≡ worn_out (pending_of t) → q ≡ worn_of t n
+  worn_by_commit ids q is = by (n.draws && nat_eq (next_id_of (tables_now t)) last_id) refl
     where
-      by : (b : Bool) → has_room t n ≡ b → log_epoch t.log ≤ log_epoch u.log
-      by true has =
-          let is : log_epoch u.log ≡ log_epoch t.log = ap (λ (x : Tables D d). log_epoch x.log) (at_once (room_there has)) in
-          omega (arith, is)
-      by false has =
-          rises r (log_epoch t.log) (log_epoch u.log) (epochs_due t) (spends (no_room_there has)) same
+      by : (b : Bool) → (n.draws && nat_eq (next_id_of (tables_now t)) last_id) ≡ b → q ≡ worn_of t n
+      by true last = absurd (ids (fst_and _ _ last)
+          (eqb-true (next_id_of (tables_now t)) last_id (snd_and n.draws _ last)))
+      by false left = is ∙ sym (ap worn_where left)
 
   -- what may be wanting once the checkpoint has room, and once ids are there
   abbrev after_table : Option Fault

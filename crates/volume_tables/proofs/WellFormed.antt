@@ -1,8 +1,7 @@
 -- Tables whose entries have values of one length, and what their changes leave well formed.
-use Rattle.std.specs.Prelude.{◌≡◌, ◌≢◌, ◌⊎◌, ◌≤◌, ◌+◌, ◌||◌, ℕ, Bool, true, false, cond, nat_eq, List, [], ◌∷◌, length}
+use Rattle.std.specs.Prelude.{◌≡◌, ◌≤◌, ◌+◌, ℕ, Bool, true, false, cond, List, [], ◌∷◌, length}
 use Rattle.std.specs.Prelude.{Option, Some, None, is_some, get_or, T, refl}
-use Rattle.std.proofs.Common.{sym, ◌∙◌, ap, subst, arith, eqb-true, eq-eqb, inl, inr}
-use Rattle.std.proofs.lemmas.Bool.{false≢true}
+use Rattle.std.proofs.Common.{sym, ◌∙◌, ap, subst, arith, eqb-true}
 use Rattle.std.specs.declared.cmp.Ordering.TheVariants.{Less, Equal, Greater}
 use Rattle.std.specs.Option.{option_map}
 use Rattle.std.specs.Ordering.{is_eq}
@@ -13,49 +12,15 @@ use Rattle.byte_map.specs.Laws.{length_put_new, length_put_present, bytes_in_put
 use Rattle.byte_map.specs.Laws.{length_without, bytes_in_without}
 use Rattle.table_records.specs.Codecs.{Codec, typed}
 use Rattle.table_records.specs.Laws.{find_typed}
+use Rattle.table_records.specs.WellFormed.{IsTable}
+pub use Rattle.table_records.proofs.Belongs.{apart, or_right}
+use Rattle.table_records.proofs.Belongs.{own_pair, pair_joins, volume_is_table, name_is_table, file_is_table, extent_is_table}
+use Rattle.table_records.proofs.Belongs.{settings_are_table, result_is_table}
 use Rattle.table_records.specs.Tables.{volume_codec, name_codec, file_codec, extent_codec, settings_codec, result_codec}
 use Rattle.volume_tables.specs.Spelled.{is_pair_of, is_well_formed, are_well_formed}
 use Rattle.meta_log.specs.Log.{checkpoint_length}
 use Rattle.volume_tables.specs.Tables.{new_bytes}
-use Rattle.volume_tables.proofs.Keyed.{first_is, second_is, both_are, is_name, is_file, is_extent, is_volume, is_result}
-
-pub or_left : (a b : Bool) → a ≡ true → (a || b) ≡ true
-or_left true b p = refl
-or_left false b p = absurd (cc)
-
-pub or_right : (a b : Bool) → b ≡ true → (a || b) ≡ true
-or_right true b p = refl
-or_right false b p = p
-
--- one of six tests, each of a table, passes
-module _ (key value : List ℕ) where
-  any : (a b c d e f : Bool) → (a ≡ true) ⊎ ((b ≡ true) ⊎ ((c ≡ true) ⊎ ((d ≡ true) ⊎ ((e ≡ true) ⊎ (f ≡ true)))))
-      → (a || (b || (c || (d || (e || f))))) ≡ true
-  any a b c d e f one = elim one [
-    | inl p ↦ or_left a _ p
-    | inr q ↦ or_right a _ (elim q [
-      | inl p ↦ or_left b _ p
-      | inr q ↦ or_right b _ (elim q [
-        | inl p ↦ or_left c _ p
-        | inr q ↦ or_right c _ (elim q [
-          | inl p ↦ or_left d _ p
-          | inr q ↦ or_right d _ (elim q [ inl p ↦ or_left e f p | inr p ↦ or_right e f p ])
-        ])
-      ])
-    ])
-  ]
-
-  joined : (is_pair_of volume_codec key value ≡ true)
-      ⊎ ((is_pair_of name_codec key value ≡ true) ⊎ ((is_pair_of file_codec key value ≡ true)
-      ⊎ ((is_pair_of extent_codec key value ≡ true)
-      ⊎ ((is_pair_of settings_codec key value ≡ true) ⊎ (is_pair_of result_codec key value ≡ true)))))
-      → is_well_formed key value ≡ true
-  joined one = any (is_pair_of volume_codec key value) (is_pair_of name_codec key value)
-      (is_pair_of file_codec key value)
-      (is_pair_of extent_codec key value) (is_pair_of settings_codec key value) (is_pair_of result_codec key value) one
-
-pub apart : (a b : ℕ) → nat_eq a b ≡ false → a ≢ b
-apart a b differ same = false≢true (sym differ ∙ eq-eqb a b same)
+use Rattle.volume_tables.proofs.Keyed.{first_is, second_is, both_are}
 
 -- the pairs of a table are well formed, those with its number are its own, and its values have so many bytes
 pub record IsEntryTable {K V : Type 0} (c : Codec K V) (size : ℕ) : Type 0 where
@@ -64,43 +29,28 @@ pub record IsEntryTable {K V : Type 0} (c : Codec K V) (size : ℕ) : Type 0 whe
   pub joins : (key value : List ℕ) → is_pair_of c key value ≡ true → is_well_formed key value ≡ true
   pub sized : (value : List ℕ) → c.is_value value ≡ true → length value ≡ size
 
-pub names_table : IsEntryTable name_codec 8
-names_table = record {
-  own = is_name;
-  joins = λ key value is. joined key value (inr (inl is));
-  sized = λ value is. eqb-true (length value) 8 is;
-}
-
-pub files_table : IsEntryTable file_codec 24
-files_table = record {
-  own = is_file;
-  joins = λ key value is. joined key value (inr (inr (inl is)));
-  sized = λ value is. eqb-true (length value) 24 is;
-}
-
-pub extents_table : IsEntryTable extent_codec 6
-extents_table = record {
-  own = is_extent;
-  joins = λ key value is. joined key value (inr (inr (inr (inl is))));
-  sized = λ value is. eqb-true (length value) 6 is;
-}
+-- a table of all, whose values have one length
+entry_table : {K V : Type 0} (c : Codec K V) (size : ℕ) → IsTable c
+    → ((value : List ℕ) → c.is_value value ≡ true → length value ≡ size) → IsEntryTable c size
+entry_table c size table sized = record { own = own_pair c table; joins = pair_joins c table; sized = sized }
 
 pub volume_table : IsEntryTable volume_codec 12
-volume_table = record {
-  own = is_volume;
-  joins = λ key value is. joined key value (inl is);
-  sized = λ value is. eqb-true (length value) 12 is;
-}
+volume_table = entry_table volume_codec 12 volume_is_table (λ value is. eqb-true (length value) 12 is)
+
+pub names_table : IsEntryTable name_codec 8
+names_table = entry_table name_codec 8 name_is_table (λ value is. eqb-true (length value) 8 is)
+
+pub files_table : IsEntryTable file_codec 24
+files_table = entry_table file_codec 24 file_is_table (λ value is. eqb-true (length value) 24 is)
+
+pub extents_table : IsEntryTable extent_codec 6
+extents_table = entry_table extent_codec 6 extent_is_table (λ value is. eqb-true (length value) 6 is)
 
 pub results_table : IsEntryTable result_codec 9
-results_table = record {
-  own = is_result;
-  joins = λ key value is. joined key value (inr (inr (inr (inr (inr is)))));
-  sized = λ value is. eqb-true (length value) 9 is;
-}
+results_table = entry_table result_codec 9 result_is_table (λ value is. eqb-true (length value) 9 is)
 
 pub settings_join : (key value : List ℕ) → is_pair_of settings_codec key value ≡ true → is_well_formed key value ≡ true
-settings_join key value is = joined key value (inr (inr (inr (inr (inl is)))))
+settings_join key value is = pair_joins settings_codec settings_are_table key value is
 
 -- ---- a map stays well formed
 

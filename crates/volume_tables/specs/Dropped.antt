@@ -17,6 +17,11 @@ use Rattle.volume_inside.specs.Lists.{IsOut}
 abbrev pub in_range : {K V : Type 0} → Codec K V → K → Option K → List (K × V) → List (K × V)
 in_range c from to es = where_key c.cmp (λ k. is_in_range c.cmp from to k) es
 
+-- the bytes of the end of a range: those of the key behind its last one, or of the next table's number
+abbrev pub end_bytes : {K : Type 0} → (K → ℕ) → Option K → ℕ
+end_bytes size None = 1
+end_bytes size (Some key) = size key
+
 -- the extents of a range
 abbrev pub extents_in : FileBlock → Option FileBlock → List (FileBlock × Extent) → List (FileBlock × Extent)
 extents_in from to es = where_key pair_cmp (λ k. is_in_range pair_cmp from to k) es

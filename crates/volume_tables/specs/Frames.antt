@@ -1,5 +1,5 @@
 -- What a cluster that is written leaves.
-use Rattle.std.specs.Prelude.{◌≡◌, ◌<◌, ◌+◌, ℕ, List}
+use Rattle.std.specs.Prelude.{◌<◌, ◌+◌, ℕ, List}
 use Rattle.cluster_space.specs.declared.state.State.{State}
 use Rattle.cluster_space.specs.declared.state.State.TheVariants.{Free}
 use Rattle.cluster_space.specs.declared.run.Run.{Run}
@@ -8,11 +8,7 @@ use Rattle.volume_inside.specs.Layout.{first_data_cluster}
 use Rattle.volume_inside.specs.Typed.{Typed}
 use Rattle.volume_inside.specs.Named.{clusters_of}
 use Rattle.volume_inside.specs.Lists.{IsOut}
-use Rattle.volume_tables.specs.Clusters.{HasState, used_at}
-
--- one cluster that was free is used
-abbrev pub IsOneUsed : ℕ → List State → List State → Type 0
-IsOneUsed n old new = (c : ℕ) × HasState n old Free c × (new ≡ used_at n c old)
+use Rattle.volume_tables.specs.Clusters.{HasState}
 
 -- tables name no cluster that is free
 abbrev pub NamesNoFree : ℕ → List State → Typed → Type 0

@@ -8,12 +8,16 @@ pub mod Frames
 pub mod Faults
 pub mod Sizes
 pub mod Staging
+pub mod Waits
 pub mod Tables
+pub mod Setters
+pub mod Results
 pub mod Mount
 pub mod Mounted
 pub mod Formats
 pub mod Counts
 pub mod Sound
+pub mod Pending
 pub mod Wants
 pub mod Reads
 pub mod Stages

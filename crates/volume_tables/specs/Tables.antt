@@ -1,5 +1,5 @@
 -- What the tables stand for.
-use Rattle.std.specs.Prelude.{◌≡◌, ◌⊎◌, ◌↔◌, ◌≤◌, ◌<◌, ◌+◌, ◌*◌, ◌&&◌, ◌||◌, nat_eq, ℕ, Bool, List, Option, None, Some, IsSome, Result, IsOk, IsErrOf, OnOk, OnErr}
+use Rattle.std.specs.Prelude.{◌≡◌, ◌⊎◌, ◌↔◌, ◌≤◌, ◌<◌, ◌+◌, ◌*◌, ℕ, Bool, List, Option, None, Some, IsSome, Result, IsOk, IsErrOf, OnOk, OnErr}
 use Rattle.std.specs.declared.cmp.Ordering.{Ordering}
 use Rattle.vdisk.specs.Disk.{DiskState}
 use Rattle.vdisk.specs.Steps.{Keeps}
@@ -18,12 +18,13 @@ use Rattle.volume_inside.specs.Ranges.{IsApart}
 use Rattle.volume_inside.specs.Named.{named, clusters_of}
 use Rattle.volume_inside.specs.Lists.{IsOut}
 use Rattle.volume_inside.specs.Shows.{Area, Shows, Kept}
-use Rattle.meta_log.specs.Log.{checkpoint_length, passes_half, epochs_for}
-use Rattle.meta_log.specs.Meta.{meta_of, last_epoch, place_in, epoch_in}
+use Rattle.meta_log.specs.Log.{checkpoint_length}
+use Rattle.meta_log.specs.Meta.{meta_of}
 use Rattle.meta_log.specs.Ready.{GoesOnFrom}
 use Rattle.meta_log.specs.declared.log.MetaLog.{MetaLog}
 use Rattle.volume_tables.specs.Log.{log_state, log_now, log_staged, log_stopped, log_place, log_epoch, IsLogOf, IsSameLog}
 use Rattle.volume_tables.specs.Ends.{results_now, unstaged_in}
+use Rattle.volume_tables.specs.Waits.{Pending, due_in, wears_in}
 use Rattle.volume_tables.specs.declared.ends.JobEnds.{JobEnds}
 use Rattle.vdisk.specs.declared.disk.Disk.{Ghosts}
 use Rattle.volume_tables.specs.declared.tables.Tables.{Tables}
@@ -81,32 +82,29 @@ module _ {D : Type 0} {d : Ghosts D} where
   abbrev pub stopped : Tables D d → Bool
   stopped t = log_stopped t.log
 
-  -- the bytes of the records that a commit now makes durable: those that are staged, and 16 of each result that is not
+  -- what waits for a commit of these tables
+  abbrev pub pending_of : Tables D d → Pending
+  pending_of t = record {
+    epoch = log_epoch t.log;
+    place = log_place t.log;
+    staged = staged_of t;
+    unstaged = unstaged_in t.ends;
+    free = free_in (states_of t);
+    worn = t.worn;
+  }
+
+  -- the bytes of the records that a commit now makes durable
   abbrev pub due_of : Tables D d → ℕ
-  due_of t = staged_of t + 16 * unstaged_in t.ends
+  due_of t = due_in (pending_of t)
 
-  -- a commit now would be refused as worn: one was, or it needs a new checkpoint and the last epoch is used up
+  -- a commit now would be refused as worn
   abbrev pub would_wear : Tables D d → Bool
-  would_wear t = t.worn
-      || (passes_half t.log.half t.log.place (due_of t) && nat_eq t.log.epoch last_epoch)
-
-  -- how many epochs a commit now takes: one where what is due does not fit behind the last group
-  abbrev pub epochs_due : Tables D d → ℕ
-  epochs_due t = epochs_for t.log.half t.log.place (due_of t)
+  would_wear t = wears_in (half_bytes t.clusters) (pending_of t)
 
   -- an image tells where the journal of these tables goes on: its live half's groups end where the next one goes, and
   -- it has this epoch
   abbrev pub IsToldBy : Tables D d → List ℕ → Type 0
   IsToldBy t image = GoesOnFrom journal_at (half_bytes t.clusters) (log_place t.log) (log_epoch t.log) image
-
-  -- The epoch that the disk's image tells has risen by one exactly where what was due did not fit behind the last group
-  -- of the live half, as the image before told it.
-  abbrev pub HasSpentEpochs : Tables D d → Tables D d → Type 0
-  HasSpentEpochs old new =
-      let half = half_bytes old.clusters in
-      let before = (disk_of old).image in
-      epoch_in journal_at half (disk_of new).image
-      ≡ epoch_in journal_at half before + epochs_for half (place_in journal_at half before) (due_of old)
 
   -- Each crash image spells the stored tables, which name no byte of the journal and no free cluster.
   pub record IsTables (t : Tables D d) (stored : Typed) : Type 0 where
@@ -116,12 +114,6 @@ module _ {D : Type 0} {d : Ghosts D} where
     pub stored_apart : IsApart journal_at (2 * half_bytes t.clusters) (named stored)
     pub free : (k : ℕ) → IsIn (states_of t) k Free → IsOut (first_data_cluster t.clusters + k) (clusters_of stored)
 
-  -- each crash image spells these tables
-  pub record IsStoredAs (t : Tables D d) (stored : Typed) : Type 0 where
-    pub map : Map
-    pub log : IsLogOf t.log map
-    pub is : typed_of map ≡ stored
-
   -- What a call that makes nothing durable leaves: at any moment of it a crash shows what was kept.
   pub record Leaves (old new : Tables D d) : Type 0 where
     pub clusters : clusters_in new ≡ clusters_in old
@@ -130,9 +122,10 @@ module _ {D : Type 0} {d : Ghosts D} where
         → Keeps (disk_of old) (disk_of new) (Shows (area_of old) w)
     pub same : IsSameLog old.log new.log
     pub later : (disk_of old).faults ≤ (disk_of new).faults
-    -- where the next group goes, the epoch, and whether a commit was worn
+    -- where the next group goes, the epoch, the ends of jobs, and whether a commit was worn
     pub place : log_place new.log ≡ log_place old.log
     pub epoch : log_epoch new.log ≡ log_epoch old.log
+    pub ends : new.ends ≡ old.ends
     pub worn : new.worn ≡ old.worn
 
   -- What a setter of an entry of so many bytes does to the journal of an image of n clusters: `was` stood at the key.

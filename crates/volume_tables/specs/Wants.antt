@@ -1,40 +1,24 @@
 -- When a resource is wanting for a call, and what it answers then.
-use Rattle.std.specs.Prelude.{◌≡◌, ◌⊎◌, ◌+◌, ◌-◌, ◌^◌, ◌&&◌, ℕ, Bool, true, false, not, cond, nat_eq, nat_le, nat_lt, IsTrue, length, Option, Some, None, Ok, Err}
+use Rattle.std.specs.Prelude.{◌≡◌, ◌⊎◌, ◌+◌, ◌&&◌, ℕ, Bool, true, false, not, cond, nat_eq, nat_lt, IsTrue, Option, Some, None, Ok, Err}
 use Rattle.vdisk.specs.Causes.{Rose}
 use Rattle.vdisk.specs.declared.disk.Disk.{Ghosts}
-use Rattle.cluster_space.specs.States.{free_in}
 use Rattle.plain_volume.specs.Step.{Outcome}
 use Rattle.plain_volume.specs.Replies.{own_reply}
 use Rattle.plain_volume.specs.declared.call.Reply.{Reply}
 use Rattle.plain_volume.specs.declared.call.Reply.TheVariants as reply
 use Rattle.plain_volume.specs.declared.call.Fault.{Fault}
 use Rattle.plain_volume.specs.declared.call.Fault.TheVariants.{Worn, TableFull, Full, Failed, Damaged, Memory}
-use Rattle.volume_inside.specs.Layout.{data_clusters, half_bytes}
-use Rattle.volume_inside.specs.Named.{clusters_of}
+use Rattle.volume_inside.specs.Layout.{half_bytes}
 use Rattle.volume_inside.specs.Rules.{next_id_of}
-use Rattle.volume_tables.specs.Tables.{tables_now, states_of, staged_of, checkpoint_of, clusters_in, disk_of, would_wear}
+pub use Rattle.volume_tables.specs.Pending.{Needs, last_id, free_of}
+use Rattle.volume_tables.specs.Pending.{finds_room, pending_of}
+use Rattle.volume_tables.specs.Tables.{tables_now, checkpoint_of, clusters_in, disk_of, would_wear}
 use Rattle.volume_tables.specs.declared.tables.Tables.{Tables}
 
--- What a call asks for: whether it draws an id; the bytes by which it makes a checkpoint of the tables longer, before it
--- drops anything; the most bytes of records that it may stage; and the clusters that it writes.
-pub record Needs : Type 0 where
-  pub draws : Bool
-  pub grows : ℕ
-  pub records : ℕ
-  pub clusters : ℕ
-
--- the last id, which is never drawn
-abbrev pub last_id : ℕ
-last_id = 2 ^ 48 - 1
-
 module _ {D : Type 0} {d : Ghosts D} where
-  -- the clusters that the tables now do not name
-  abbrev pub free_of : Tables D d → ℕ
-  free_of t = data_clusters (clusters_in t) - length (clusters_of (tables_now t))
-
   -- records of so many bytes find room without a commit, and so many clusters are free
   abbrev pub has_room : Tables D d → Needs → Bool
-  has_room t n = nat_le (staged_of t + n.records) 65472 && nat_le n.clusters (free_in (states_of t))
+  has_room t n = finds_room (pending_of t) n
 
   -- THE RESOURCE THAT IS WANTING, the first one in this order: ids, room in a checkpoint, clusters, and epochs, where a
   -- commit must come first

@@ -1,10 +1,11 @@
 //! Room is made for a call.
 
-ghost use Rattle.std.specs.Prelude.{◌≡◌, ◌⊎◌, ◌≤◌, ◌+◌, ◌-◌, ◌^◌, false, true, IsTrue, None, IfErr, IsErrOf, OnOk};
+ghost use Rattle.std.specs.Prelude.{◌≡◌, ◌≤◌, ◌+◌, ◌-◌, false, true, None, IfErr, IsErrOf, OnOk};
 ghost use Rattle.volume_inside.specs.Layout.{half_bytes};
 ghost use Rattle.volume_inside.specs.Rules.{next_id_of};
-ghost use Rattle.volume_tables.specs.Tables.{clusters_in, tables_now, inside_now, view_now, checkpoint_of, stopped};
+ghost use Rattle.volume_tables.specs.Tables.{clusters_in, tables_now, inside_now, checkpoint_of, stopped};
 ghost use Rattle.volume_tables.specs.Tables.{IsRoomFor};
+ghost use Rattle.volume_tables.specs.Pending.{pending_of, roomed_of, worn_of};
 ghost use Rattle.volume_tables.specs.Sound.{IsSound, Endures, Spares};
 ghost use Rattle.volume_tables.specs.Wants.{last_id, wanting, IsWanting};
 
@@ -43,6 +44,10 @@ pub fn make_room<D: Disk>(
     ensures stops { stopped tables.new ≡ true → IsErrOf result Fault.Failed }
     ensures halts { IsErrOf result Fault.Failed → stopped tables.new ≡ true }
     ensures spares { Spares tables.old tables.new result }
+    ensures pending { OnOk result (pending_of tables.new ≡ roomed_of tables.old
+        (record { draws = draws; grows = grows; records = records; clusters = clusters })) }
+    ensures worn { IsErrOf result Fault.Worn → pending_of tables.new ≡ worn_of tables.old
+        (record { draws = draws; grows = grows; records = records; clusters = clusters }) }
 {
     if draws && tables.stored_next_id() == LAST_ID {
         return Err(Fault::Worn);

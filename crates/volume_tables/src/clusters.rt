@@ -1,21 +1,17 @@
-//! Data clusters are taken, written, read and given up.
+//! Data clusters: they are taken, written, read and given up.
 
-ghost use Rattle.std.specs.Prelude.{◌≡◌, ◌⊎◌, ◌≤◌, ◌<◌, ◌+◌, ◌*◌, ◌-◌, ℕ, List, length, true, false, slice_set, OnOk, OnErr, IfOk, IsErrOf, take, drop};
+ghost use Rattle.std.specs.Prelude.{◌≡◌, ◌⊎◌, ◌≤◌, ◌<◌, ◌+◌, ◌*◌, ◌-◌, ℕ, length, true, false, OnOk, OnErr, IfOk, IsErrOf};
 ghost use Rattle.vdisk.specs.Causes.{Rose};
 ghost use Rattle.vdisk.specs.Disk.{ChangedWithin};
-ghost use Rattle.vdisk.specs.Steps.{Keeps};
 ghost use Rattle.vdisk.specs.Ranges.{part};
 ghost use Rattle.cluster_space.specs.States.{free_in};
-ghost use Rattle.plain_volume.specs.Volume.{Volume};
 ghost use Rattle.volume_inside.specs.Layout.{first_data_cluster, IsDataCluster};
 ghost use Rattle.volume_inside.specs.Lists.{IsOut};
 ghost use Rattle.volume_inside.specs.Named.{clusters_of};
 ghost use Rattle.volume_inside.specs.Inside.{cluster_bytes, inside_at};
 ghost use Rattle.volume_inside.specs.Typed.{Typed};
-ghost use Rattle.volume_inside.specs.Shows.{Shows, Kept};
-ghost use Rattle.volume_tables.specs.Log.{log_place, log_epoch, IsSameLog};
 ghost use Rattle.volume_tables.specs.Clusters.{HasState, used_at, deferred_at, deferred_unless};
-ghost use Rattle.volume_tables.specs.Frames.{AreFree, NamesNoFree, IsOneUsed};
+ghost use Rattle.volume_tables.specs.Frames.{AreFree, NamesNoFree};
 
 use crate::fault;
 use crate::tables::Tables;
@@ -24,7 +20,8 @@ use plain_volume::Fault;
 use vdisk::Disk;
 
 impl<D: Disk> Tables<D> {
-    ghost use Rattle.volume_tables.specs.Tables.{tables_now, inside_now, states_of, staged_of, checkpoint_of, disk_of, area_of, stopped, clusters_in, IsTables, Leaves};
+    ghost use Rattle.volume_tables.specs.Reads.{ReadsOnly};
+    ghost use Rattle.volume_tables.specs.Tables.{tables_now, inside_now, states_of, staged_of, checkpoint_of, disk_of, stopped, IsTables, Leaves};
 
     /// The first data cluster.
     pub(crate) fn first_cluster(&self) -> u32
@@ -34,20 +31,6 @@ impl<D: Disk> Tables<D> {
         1 + 2 * (self.clusters / 32)
     }
 
-    /// Takes a free cluster, which is used from now on.
-    fn take_cluster(&mut self) -> u32
-        requires { 0 < free_in (states_of self.old) }
-        ensures free { HasState self.old.clusters (states_of self.old) State.Free result }
-        ensures used { states_of self.new ≡ used_at self.old.clusters result (states_of self.old) }
-        ensures log { self.new.log ≡ self.old.log }
-        ensures tables { tables_now self.new ≡ tables_now self.old }
-        ensures clusters { self.new.clusters ≡ self.old.clusters }
-        ensures worn { self.new.worn ≡ self.old.worn }
-    {
-        let index = self.space.take().unwrap();
-        self.first_cluster() + index
-    }
-
     /// Makes a free cluster used.
     fn use_free(&mut self, cluster: u32)
         requires { HasState self.old.clusters (states_of self.old) State.Free cluster }
@@ -55,6 +38,7 @@ impl<D: Disk> Tables<D> {
         ensures log { self.new.log ≡ self.old.log }
         ensures tables { tables_now self.new ≡ tables_now self.old }
         ensures clusters { self.new.clusters ≡ self.old.clusters }
+        ensures ends { self.new.ends ≡ self.old.ends }
         ensures worn { self.new.worn ≡ self.old.worn }
     {
         let index = cluster - self.first_cluster();
@@ -100,6 +84,7 @@ impl<D: Disk> Tables<D> {
         ensures log { self.new.log ≡ self.old.log }
         ensures tables { tables_now self.new ≡ tables_now self.old }
         ensures clusters { self.new.clusters ≡ self.old.clusters }
+        ensures ends { self.new.ends ≡ self.old.ends }
         ensures worn { self.new.worn ≡ self.old.worn }
     {
         let index = cluster - self.first_cluster();
@@ -115,6 +100,7 @@ impl<D: Disk> Tables<D> {
         ensures log { self.new.log ≡ self.old.log }
         ensures tables { tables_now self.new ≡ tables_now self.old }
         ensures clusters { self.new.clusters ≡ self.old.clusters }
+        ensures ends { self.new.ends ≡ self.old.ends }
         ensures worn { self.new.worn ≡ self.old.worn }
     {
         if cluster != other {
@@ -130,6 +116,7 @@ impl<D: Disk> Tables<D> {
         ensures log { self.new.log ≡ self.old.log }
         ensures tables { tables_now self.new ≡ tables_now self.old }
         ensures clusters { self.new.clusters ≡ self.old.clusters }
+        ensures ends { self.new.ends ≡ self.old.ends }
         ensures worn { self.new.worn ≡ self.old.worn }
     {
         let index = cluster - self.first_cluster();
@@ -137,64 +124,6 @@ impl<D: Disk> Tables<D> {
             self.space.release(index);
             self.space.mark_used(index);
         }
-    }
-
-    /// Writes a data cluster.
-    fn write_taken(&mut self, cluster: u32, bytes: &[u8; 4096]) -> Result<(), Fault>
-        requires running { stopped self.old ≡ false }
-        requires in_data { IsDataCluster self.old.clusters cluster }
-        ensures now { tables_now self.new ≡ tables_now self.old }
-        ensures states { states_of self.new ≡ states_of self.old }
-        ensures written { (stored : Typed) → IsTables self.old stored →
-            OnOk result (cluster_bytes cluster (disk_of self.new).image ≡ bytes.now) }
-        ensures image { ChangedWithin (4096 * cluster) 4096 (disk_of self.old).image (disk_of self.new).image }
-        ensures clusters { self.new.clusters ≡ self.old.clusters }
-        ensures tables { (stored : Typed) → IsTables self.old stored → IsTables self.new stored }
-        ensures moments { (stored : Typed) (w : Volume) → IsTables self.old stored →
-            IsOut cluster (clusters_of stored) → Kept (area_of self.old) (disk_of self.old) w →
-            Keeps (disk_of self.old) (disk_of self.new) (Shows (area_of self.old) w) }
-        ensures same { IsSameLog self.old.log self.new.log }
-        ensures later { (disk_of self.old).faults ≤ (disk_of self.new).faults }
-        ensures place { log_place self.new.log ≡ log_place self.old.log }
-        ensures epoch { log_epoch self.new.log ≡ log_epoch self.old.log }
-        ensures worn { self.new.worn ≡ self.old.worn }
-        ensures numbers { (staged_of self.new ≡ staged_of self.old) × (checkpoint_of self.new ≡
-            checkpoint_of self.old) }
-        ensures runs { OnOk result (stopped self.new ≡ false) }
-        ensures stops { OnErr result (stopped self.new ≡ true) }
-        ensures failed { OnErr result (IsErrOf result Fault.Failed ×
-            Rose (disk_of self.old).faults (disk_of self.new).faults) }
-    {
-        fault::of_log(self.log.write_data(4096 * cluster as u64, bytes))
-    }
-
-    /// Takes a free cluster and writes it. Neither the stored tables nor those now name it. A refusal stops the tables,
-    /// and the cluster stays used.
-    pub fn write_cluster(&mut self, bytes: &[u8; 4096]) -> Result<u32, Fault>
-        requires running { stopped self.old ≡ false }
-        requires some { 0 < free_in (states_of self.old) }
-        ensures free { IfOk result (λ cluster. HasState self.old.clusters (states_of self.old) State.Free cluster) }
-        ensures used { IfOk result (λ cluster. states_of self.new ≡
-            used_at self.old.clusters cluster (states_of self.old)) }
-        ensures unnamed { IfOk result (λ cluster. IsOut cluster (clusters_of (tables_now self.old))) }
-        ensures now { tables_now self.new ≡ tables_now self.old }
-        ensures written { (stored : Typed) → IsTables self.old stored →
-            IfOk result (λ cluster. cluster_bytes cluster (disk_of self.new).image ≡ bytes.now) }
-        ensures same { inside_now self.new ≡ inside_now self.old }
-        ensures frame { (t : Typed) → NamesNoFree self.old.clusters (states_of self.old) t →
-            inside_at t (disk_of self.new).image ≡ inside_at t (disk_of self.old).image }
-        ensures leaves { Leaves self.old self.new }
-        ensures numbers { (staged_of self.new ≡ staged_of self.old) × (checkpoint_of self.new ≡
-            checkpoint_of self.old) }
-        ensures runs { OnOk result (stopped self.new ≡ false) }
-        ensures stops { OnErr result (stopped self.new ≡ true) }
-        ensures lost { OnErr result (IsOneUsed self.old.clusters (states_of self.old) (states_of self.new)) }
-        ensures failed { OnErr result (IsErrOf result Fault.Failed ×
-            Rose (disk_of self.old).faults (disk_of self.new).faults) }
-    {
-        let cluster = self.take_cluster();
-        self.write_taken(cluster, bytes)?;
-        Ok(cluster)
     }
 
     /// Writes bytes over neighbouring free clusters, which they fill.
@@ -251,26 +180,6 @@ impl<D: Disk> Tables<D> {
         Ok(run)
     }
 
-    /// Reads bytes of a data cluster from a place in it on. After a refusal `out` may hold anything.
-    pub fn read_range(&mut self, cluster: u32, from: u16, out: &mut [u8]) -> Result<(), Fault>
-        requires in_data { IsDataCluster self.old.clusters cluster }
-        requires in_cluster { from + length out.old ≤ 4096 }
-        ensures bytes { (stored : Typed) → IsTables self.old stored →
-            OnOk result (out.new ≡ part from (length out.old) (cluster_bytes cluster (disk_of self.old).image)) }
-        ensures now { tables_now self.new ≡ tables_now self.old }
-        ensures states { states_of self.new ≡ states_of self.old }
-        ensures image { (disk_of self.new).image ≡ (disk_of self.old).image }
-        ensures leaves { Leaves self.old self.new }
-        ensures numbers { (staged_of self.new ≡ staged_of self.old) × (checkpoint_of self.new ≡
-            checkpoint_of self.old) }
-        ensures ends { self.new.ends ≡ self.old.ends }
-        ensures running { stopped self.new ≡ stopped self.old }
-        ensures failed { OnErr result (IsErrOf result Fault.Failed ×
-            Rose (disk_of self.old).faults (disk_of self.new).faults) }
-    {
-        fault::of_log(self.log.read_data(4096 * cluster as u64 + from as u64, out))
-    }
-
     /// Reads bytes of data clusters beside one another, from a place in the first of them on, at once. After a refusal
     /// `out` may hold anything.
     pub fn read_run(&mut self, first: u32, from: u16, out: &mut [u8]) -> Result<(), Fault>
@@ -278,14 +187,7 @@ impl<D: Disk> Tables<D> {
         requires in_clusters { 4096 * first + from + length out.old ≤ 4096 * self.old.clusters }
         ensures bytes { (stored : Typed) → IsTables self.old stored →
             OnOk result (out.new ≡ part (4096 * first + from) (length out.old) (disk_of self.old).image) }
-        ensures now { tables_now self.new ≡ tables_now self.old }
-        ensures states { states_of self.new ≡ states_of self.old }
-        ensures image { (disk_of self.new).image ≡ (disk_of self.old).image }
-        ensures leaves { Leaves self.old self.new }
-        ensures numbers { (staged_of self.new ≡ staged_of self.old) × (checkpoint_of self.new ≡
-            checkpoint_of self.old) }
-        ensures ends { self.new.ends ≡ self.old.ends }
-        ensures running { stopped self.new ≡ stopped self.old }
+        ensures reads { ReadsOnly self.old self.new }
         ensures failed { OnErr result (IsErrOf result Fault.Failed ×
             Rose (disk_of self.old).faults (disk_of self.new).faults) }
     {

@@ -1,23 +1,52 @@
-//! Extents are set and dropped.
+//! Extents, and the clusters that they name.
 
-ghost use Rattle.std.specs.Prelude.{◌≡◌, ◌≢◌, ◌⊎◌, ◌≤◌, ◌<◌, ◌+◌, OnOk, OnErr, Option, Some, None};
+ghost use Rattle.std.specs.Prelude.{◌≡◌, ◌⊎◌, ◌≤◌, ◌<◌, ◌+◌, not, length, Option, Some, None};
 ghost use Rattle.std.specs.FinMap.Entries.{find};
+ghost use Rattle.table_records.specs.Changes.{is_in_range};
 ghost use Rattle.table_records.specs.Keys.{pair_cmp};
 ghost use Rattle.table_records.specs.declared.records.Extent.{Extent};
-ghost use Rattle.volume_inside.specs.Changes.{with_extent};
+ghost use Rattle.volume_inside.specs.Changes.{with_extent, keep_extents};
+ghost use Rattle.volume_inside.specs.Layout.{first_data_cluster};
 ghost use Rattle.volume_inside.specs.Lists.{IsOut};
 ghost use Rattle.volume_inside.specs.Named.{clusters_of};
-ghost use Rattle.volume_tables.specs.Clusters.{HasState, IsNoOthers, used_at, with_replaced, with_refused};
+ghost use Rattle.volume_tables.specs.Clusters.{HasState, IsNoOthers, with_replaced, with_refused, all_deferred};
+ghost use Rattle.volume_tables.specs.Dropped.{end_bytes, extents_in};
 
 use crate::raw;
+use crate::raw_extents::defer_range;
 use crate::tables::Tables;
 use cluster_space::State;
 use plain_volume::Fault;
-use table_records::{Extent, Extents};
+use table_records::{Extent, ExtentTable};
 use vdisk::Disk;
 
 impl<D: Disk> Tables<D> {
-    ghost use Rattle.volume_tables.specs.Tables.{tables_now, states_of, staged_of, Leaves, IsSet};
+    ghost use Rattle.volume_tables.specs.Setters.{IsSetIn, IsExtentSet, IsDroppedIn};
+    ghost use Rattle.volume_tables.specs.Tables.{tables_now, states_of, staged_of, next_after};
+
+    /// The extent of a block of a file: `key` is the file's id and the block's number.
+    pub fn get_extent(&self, key: (u64, u32)) -> Option<Extent>
+        ensures { result ≡ find pair_cmp key (tables_now self.now).extents }
+    {
+        raw::get::<D, ExtentTable>(&self.log, key)
+    }
+
+    /// The extent with the least key above `after`, or with the least of all.
+    pub fn next_extent(&self, after: Option<(u64, u32)>) -> Option<((u64, u32), Extent)>
+        ensures { result ≡ next_after pair_cmp after (tables_now self.now).extents }
+    {
+        match after {
+            Some(key) => raw::next::<D, ExtentTable>(&self.log, key),
+            None => raw::first::<D, ExtentTable>(&self.log),
+        }
+    }
+
+    /// How many extents have a key from one on and below another. However many they are, it searches twice.
+    pub fn count_extents(&self, from: (u64, u32), to: (u64, u32)) -> usize
+        ensures { result ≡ length (extents_in from (Some to) (tables_now self.now).extents) }
+    {
+        raw::count_between::<D, ExtentTable>(&self.log, from, to)
+    }
 
     /// Sets an extent over a used cluster that no other key names. The cluster that stood at the key stays used.
     fn put_extent(&mut self, key: (u64, u32), extent: Extent) -> Result<(), Fault>
@@ -25,13 +54,10 @@ impl<D: Disk> Tables<D> {
         requires below { extent.cluster < self.old.clusters }
         requires used { HasState self.old.clusters (states_of self.old) State.Used extent.cluster }
         requires alone { IsNoOthers key extent.cluster (tables_now self.old) }
-        ensures ok { OnOk result (tables_now self.new ≡ with_extent key extent (tables_now self.old)) }
-        ensures err { OnErr result (tables_now self.new ≡ tables_now self.old) }
-        ensures set { IsSet (find pair_cmp key (tables_now self.old).extents) 24 self.old self.new result }
-        ensures leaves { Leaves self.old self.new }
-        ensures states { states_of self.new ≡ states_of self.old }
+        ensures { IsSetIn (with_extent key extent) (find pair_cmp key (tables_now self.old).extents) 24
+            self.old self.new result }
     {
-        raw::put::<D, Extents>(&mut self.log, key, extent)
+        raw::put::<D, ExtentTable>(&mut self.log, key, extent)
     }
 
     /// Gives up the cluster that stood at a key where this one now stands.
@@ -43,6 +69,7 @@ impl<D: Disk> Tables<D> {
         ensures log { self.new.log ≡ self.old.log }
         ensures tables { tables_now self.new ≡ tables_now self.old }
         ensures clusters { self.new.clusters ≡ self.old.clusters }
+        ensures ends { self.new.ends ≡ self.old.ends }
         ensures worn { self.new.worn ≡ self.old.worn }
     {
         match was {
@@ -60,6 +87,7 @@ impl<D: Disk> Tables<D> {
         ensures log { self.new.log ≡ self.old.log }
         ensures tables { tables_now self.new ≡ tables_now self.old }
         ensures clusters { self.new.clusters ≡ self.old.clusters }
+        ensures ends { self.new.ends ≡ self.old.ends }
         ensures worn { self.new.worn ≡ self.old.worn }
     {
         match was {
@@ -84,16 +112,7 @@ impl<D: Disk> Tables<D> {
         requires taken { HasState self.old.clusters (states_of self.old) State.Used extent.cluster ⊎
             HasState self.old.clusters (states_of self.old) State.Deferred extent.cluster }
         requires alone { IsNoOthers key extent.cluster (tables_now self.old) }
-        ensures ok { OnOk result (tables_now self.new ≡ with_extent key extent (tables_now self.old)) }
-        ensures err { OnErr result (tables_now self.new ≡ tables_now self.old) }
-        ensures set { IsSet (find pair_cmp key (tables_now self.old).extents) 24 self.old self.new result }
-        ensures leaves { Leaves self.old self.new }
-        ensures replaced { OnOk result (states_of self.new ≡
-            with_replaced self.old.clusters (find pair_cmp key (tables_now self.old).extents) extent.cluster
-            (used_at self.old.clusters extent.cluster (states_of self.old))) }
-        ensures refused { OnErr result (states_of self.new ≡
-            with_refused self.old.clusters (find pair_cmp key (tables_now self.old).extents) extent.cluster
-            (used_at self.old.clusters extent.cluster (states_of self.old))) }
+        ensures { IsExtentSet key extent self.old self.new result }
     {
         self.take_back(extent.cluster);
         match self.put_extent(key, extent) {
@@ -106,5 +125,18 @@ impl<D: Disk> Tables<D> {
                 Err(fault)
             }
         }
+    }
+
+    /// Drops the extents from a key on, all of them or those below another. Their clusters are deferred. Room for 31
+    /// bytes of records was ensured.
+    pub fn drop_extent(&mut self, from: (u64, u32), to: Option<(u64, u32)>)
+        requires { staged_of self.old + 31 ≤ 65472 }
+        ensures { IsDroppedIn (keep_extents (λ key. not (is_in_range pair_cmp from to key)))
+            (5 + 13 + end_bytes (λ key. 13) to) (all_deferred (first_data_cluster self.old.clusters)
+            (extents_in from to (tables_now self.old).extents) (states_of self.old)) self.old self.new }
+    {
+        let first = self.first_cluster();
+        defer_range(&self.log, &mut self.space, first, from, to);
+        raw::drop_range::<D, ExtentTable>(&mut self.log, from, to);
     }
 }

@@ -1,6 +1,6 @@
 //! What refusals of the journal are for the tables.
 
-ghost use Rattle.std.specs.Prelude.{◌≡◌, ◌↔◌, IsTrue, IsErrOf};
+ghost use Rattle.std.specs.Prelude.{◌≡◌, ◌↔◌, IsTrue};
 ghost use Rattle.volume_tables.specs.Faults.{answer_of};
 
 use meta_log::MetaFault;
@@ -20,8 +20,8 @@ pub(crate) fn of_log(answer: Result<(), MetaFault>) -> Result<(), Fault>
     }
 }
 
-pub(crate) fn is_worn(answer: &Result<(), Fault>) -> bool
-    ensures { IsTrue result ↔ IsErrOf answer.now Fault.Worn }
+pub(crate) fn is_worn(fault: &Fault) -> bool
+    ensures { IsTrue result ↔ fault.now ≡ Fault.Worn }
 {
-    matches!(answer, Err(Fault::Worn))
+    matches!(fault, Fault::Worn)
 }

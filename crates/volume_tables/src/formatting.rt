@@ -1,14 +1,12 @@
 //! A fresh volume is made.
 
 ghost use Rattle.std.specs.Prelude.{◌≡◌, ◌⊎◌, ◌≤◌, ◌<◌, ◌*◌, ◌+◌, ℕ, List, []};
-ghost use Rattle.std.specs.Prelude.{false, length, take, IsTrue, Ok, IfOk, IfErr, OnOk, OnErr};
+ghost use Rattle.std.specs.Prelude.{false, length, IsTrue, Ok, IfOk, IfErr, OnOk};
 ghost use Rattle.std.specs.FinMap.Entries.{put};
 ghost use Rattle.byte_map.specs.Words.{bytes_cmp};
 ghost use Rattle.meta_log.specs.Log.{IsLog, now_of, staged_of, state_of};
-ghost use Rattle.meta_log.specs.Meta.{meta_of};
 ghost use Rattle.table_records.specs.Settings.{settings_bytes};
 ghost use Rattle.vdisk.specs.Causes.{HasCause, Rose};
-ghost use Rattle.vdisk.specs.Disk.{ChangedWithin};
 ghost use Rattle.volume_inside.specs.Fresh.{fresh_map, fresh_settings, fresh_tables};
 ghost use Rattle.volume_inside.specs.Layout.{journal_at, half_bytes as half_of};
 ghost use Rattle.table_rules.specs.Found.{AreRecordsOf};
@@ -20,12 +18,13 @@ ghost use Rattle.vdisk.specs.Steps.{Keeps};
 ghost use Rattle.volume_tables.specs.Log.{log_epoch, log_place};
 ghost use Rattle.volume_tables.specs.Formats.{IsCommitted, IsFormatFault, with_results};
 ghost use Rattle.volume_tables.specs.Formats.{IsBegun, IsMakeImage, SpellsNoFile};
+ghost use Rattle.volume_tables.specs.Sizes.{tables_bytes};
 ghost use Rattle.volume_tables.specs.Staging.{IsQuiet};
 ghost use Rattle.volume_inside.specs.Shows.{Kept};
 ghost use Rattle.volume_tables.specs.Tables.{tables_now, area_of, disk_of, states_of, due_of, IsToldBy};
 ghost use Rattle.volume_tables.specs.Tables.{staged_of as staged_in, stopped, IsTables};
 
-use crate::mounting::{assemble, of_log};
+use crate::mounting::{assemble, mount_fault};
 use crate::tables::Tables;
 use cluster_space::Space;
 use meta_log::{MetaFault, MetaLog};
@@ -92,6 +91,7 @@ fn first_settings(alloc: Global) -> Settings
 /// Stages a pair.
 fn stage_pair<D: Disk>(log: &mut MetaLog<D>, key: &[u8], value: &[u8]) -> Result<(), MetaFault>
     ensures now { OnOk result (now_of log.new ≡ put bytes_cmp key.now value.now (now_of log.old)) }
+    ensures staged { OnOk result (staged_of log.new ≡ staged_of log.old + (5 + (length key.now + length value.now))) }
     ensures quiet { IsQuiet log.old log.new }
 {
     log.stage_put(key, value)
@@ -100,6 +100,7 @@ fn stage_pair<D: Disk>(log: &mut MetaLog<D>, key: &[u8], value: &[u8]) -> Result
 /// Stages the results of all kinds.
 fn stage_results<D: Disk>(log: &mut MetaLog<D>) -> Result<(), MetaFault>
     ensures now { OnOk result (now_of log.new ≡ with_results (now_of log.old)) }
+    ensures staged { OnOk result (staged_of log.new ≡ staged_of log.old + 64) }
     ensures quiet { IsQuiet log.old log.new }
 {
     stage_pair(log, &[10, 1], &NO_RESULT)?;
@@ -113,6 +114,7 @@ fn stage_first<D: Disk>(log: &mut MetaLog<D>, settings: &[u8]) -> Result<(), Met
     requires empty { now_of log.old ≡ [] }
     requires settings { settings.now ≡ settings_bytes fresh_settings }
     ensures now { OnOk result (now_of log.new ≡ fresh_map) }
+    ensures staged { OnOk result (staged_of log.new ≡ staged_of log.old + 106) }
     ensures quiet { IsQuiet log.old log.new }
 {
     stage_pair(log, &[1], &FIRST_RECORD)?;
@@ -129,6 +131,7 @@ fn commit_first<D: Disk>(
     requires settings { settings.now ≡ settings_bytes fresh_settings }
     requires running { log.stopped ≡ false }
     requires begun { log_place log ≡ 45 }
+    requires none { staged_of log ≡ 0 }
     requires wide { 65618 ≤ log.half }
     ensures now { IfOk result (λ new. now_of new ≡ fresh_map) }
     ensures log { IsLog log [] → IfOk result (λ new. IsLog new fresh_map) }
@@ -143,9 +146,9 @@ fn commit_first<D: Disk>(
     ensures at { IfOk result (λ new. new.at ≡ log.at) }
     ensures half { IfOk result (λ new. new.half ≡ log.half) }
     ensures staged { IfOk result (λ new. staged_of new ≡ 0) }
-    ensures epoch { IfOk result (λ new. log_epoch new ≤ log_epoch log + 1) }
     // A group fits behind an empty checkpoint, whatever it holds.
     ensures first { IfOk result (λ new. log_epoch new ≡ log_epoch log) }
+    ensures next { IfOk result (λ new. log_place new ≡ 45 + (37 + 106)) }
     ensures runs { IfOk result (λ new. new.stopped ≡ false) }
     ensures refused { IfErr result (λ e. ((e.1 ≡ MountFault.Failed) × Rose (state_of log).faults (D.state e.0).faults)
         ⊎ (e.1 ≡ MountFault.Memory)) }
@@ -208,6 +211,7 @@ fn make_log<D: Disk>(
     ensures half { IfOk result (λ log. log.half ≡ half_of clusters) }
     ensures epoch { IfOk result (λ log. log_epoch log ≡ 1) }
     ensures next { IfOk result (λ log. log_place log ≡ 45) }
+    ensures staged { IfOk result (λ log. staged_of log ≡ 0) }
     ensures runs { IfOk result (λ log. log.stopped ≡ false) }
     ensures refused { IfErr result (λ e. ((e.1 ≡ MountFault.Failed) × Rose (D.state disk).faults (D.state e.0).faults)
         ⊎ (e.1 ≡ MountFault.Memory)) }
@@ -225,7 +229,7 @@ fn make_log<D: Disk>(
     }
     match MetaLog::format(alloc, disk, JOURNAL_AT, half_bytes(clusters)) {
         Ok(log) => Ok(log),
-        Err((disk, fault)) => Err((disk, of_log(fault))),
+        Err((disk, fault)) => Err((disk, mount_fault(fault))),
     }
 }
 
@@ -269,8 +273,8 @@ fn make<D: Disk>(alloc: Global, disk: D, clusters: u32) -> Result<Tables<D>, (D,
     ensures clusters { IfOk result (λ tables. tables.clusters ≡ clusters) }
     ensures staged { IfOk result (λ tables. staged_in tables ≡ 0) }
     ensures due { IfOk result (λ tables. due_of tables ≡ 0) }
-    ensures epoch { IfOk result (λ tables. log_epoch tables.log ≤ 2) }
     ensures first { IfOk result (λ tables. log_epoch tables.log ≡ 1) }
+    ensures next { IfOk result (λ tables. log_place tables.log ≡ tables_bytes fresh_tables + 37) }
     ensures goes_on { IsTrue (D.state disk).tells → IfOk result (λ tables. IsToldBy tables (disk_of tables).image) }
     ensures runs { IfOk result (λ tables. stopped tables ≡ false) }
     ensures fresh { IfOk result (λ tables. tables.worn ≡ false) }
@@ -315,8 +319,9 @@ impl<D: Disk> Tables<D> {
         ensures clusters { IfOk result (λ tables. tables.clusters ≡ clusters) }
         ensures staged { IfOk result (λ tables. staged_in tables ≡ 0) }
         ensures due { IfOk result (λ tables. due_of tables ≡ 0) }
-        ensures epoch { IfOk result (λ tables. log_epoch tables.log ≤ 2) }
         ensures first { IfOk result (λ tables. log_epoch tables.log ≡ 1) }
+        // The first records stand as one group behind an empty checkpoint.
+        ensures next { IfOk result (λ tables. log_place tables.log ≡ tables_bytes fresh_tables + 37) }
         ensures goes_on { IsTrue (D.state disk).tells → IfOk result (λ tables. IsToldBy tables (disk_of tables).image) }
         ensures runs { IfOk result (λ tables. stopped tables ≡ false) }
         ensures fresh { IfOk result (λ tables. tables.worn ≡ false) }

@@ -1,4 +1,4 @@
-//! Ids are drawn.
+//! Ids, which are drawn.
 
 ghost use Rattle.std.specs.Prelude.{◌≡◌, ◌↔◌, ◌≤◌, ◌+◌, ◌-◌, ◌^◌, OnOk, OnErr, IfOk, IsErrOf};
 ghost use Rattle.volume_inside.specs.Rules.{next_id_of};
@@ -7,7 +7,7 @@ ghost use Rattle.volume_inside.specs.Changes.{with_volume};
 use crate::raw;
 use crate::tables::Tables;
 use plain_volume::Fault;
-use table_records::{Volume, VolumeRecord};
+use table_records::{VolumeRecord, VolumeTable};
 use vdisk::Disk;
 
 /// The last id, which is never drawn.
@@ -18,6 +18,13 @@ pub(crate) const VERSION: u32 = 1;
 
 impl<D: Disk> Tables<D> {
     ghost use Rattle.volume_tables.specs.Tables.{tables_now, states_of, staged_of, checkpoint_of, disk_of, stopped, Leaves};
+
+    /// The id that is drawn next.
+    pub fn stored_next_id(&self) -> u64
+        ensures { result ≡ next_id_of (tables_now self.now) }
+    {
+        self.next_id
+    }
 
     /// Answers the next id, and raises it by one. The fault is `Worn`, exactly where the next id is the last one, and
     /// then nothing has changed. Room for 18 bytes of records was ensured. It takes no memory.
@@ -63,7 +70,7 @@ impl<D: Disk> Tables<D> {
             version: VERSION,
             next_id,
         };
-        raw::put::<D, Volume>(&mut self.log, (), volume).unwrap();
+        raw::put::<D, VolumeTable>(&mut self.log, (), volume).unwrap();
         self.next_id = next_id;
     }
 }

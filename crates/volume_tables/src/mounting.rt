@@ -32,7 +32,7 @@ use vdisk::Disk;
 use volume_inside::{JOURNAL_AT, MountFault, half_bytes};
 
 /// What a refusal to open the journal is for a mount. That there is no room for records does not come here.
-pub(crate) fn of_log(fault: MetaFault) -> MountFault
+pub(crate) fn mount_fault(fault: MetaFault) -> MountFault
     ensures { result ≡ mount_fault_of fault }
 {
     match fault {
@@ -66,7 +66,7 @@ fn open_log<D: Disk>(alloc: Global, disk: D, clusters: u32) -> Result<MetaLog<D>
 {
     match MetaLog::open(alloc, disk, JOURNAL_AT, half_bytes(clusters)) {
         Ok(log) => Ok(log),
-        Err((disk, fault)) => Err((disk, of_log(fault))),
+        Err((disk, fault)) => Err((disk, mount_fault(fault))),
     }
 }
 

@@ -44,14 +44,13 @@ pub(crate) fn next<D: Disk, T: Table>(log: &MetaLog<D>, after: T::Key) -> Option
     }
 }
 
-/// The first entry of the table of this number, where each key with the number is one of its keys, and the number
-/// alone is none.
-pub(crate) fn first<D: Disk, T: Table>(log: &MetaLog<D>, number: u8) -> Option<(T::Key, T::Value)>
-    ensures { T.codec.number ≡ number → T.codec.read_key (number ∷ []) ≡ None →
+/// The first entry of a table, where each key with its number is one of its keys, and the number alone is none.
+pub(crate) fn first<D: Disk, T: Table>(log: &MetaLog<D>) -> Option<(T::Key, T::Value)>
+    ensures { T.codec.read_key (T.codec.number ∷ []) ≡ None →
         SortedAnd (IsKeyed T.codec) (log_now log.now) →
         result ≡ first_of (typed T.codec (log_now log.now)) }
 {
-    match log.next(&[number]) {
+    match log.next(&[T::NUMBER]) {
         None => None,
         Some((key, value)) => match T::read_key(key) {
             None => None,
@@ -90,38 +89,31 @@ pub(crate) fn put<D: Disk, T: Table>(
     fault::of_log(log.stage_put(&spelled[..length], &bytes[..size]))
 }
 
-/// Stages that the entries of a table with the keys from one on are dropped, all of them or those below another. The
-/// number is that of the next table. Room for the record was ensured.
-pub(crate) fn drop_range<D: Disk, T: Table>(
-    log: &mut MetaLog<D>,
-    from: T::Key,
-    to: Option<T::Key>,
-    end: u8,
-)
-    requires number { T.codec.number + 1 ≡ end }
-    requires room { (b w : List ℕ) → T.codec.read_key b ≡ Some from → EndsRange T.codec to w →
+/// Stages that the entries of a table with the keys from one on are dropped, all of them or those below another. Room
+/// for the record was ensured.
+pub(crate) fn drop_range<D: Disk, T: Table>(log: &mut MetaLog<D>, from: T::Key, to: Option<T::Key>)
+    requires { (b w : List ℕ) → T.codec.read_key b ≡ Some from → EndsRange T.codec to w →
         log_staged log.old + (5 + (length b + length w)) ≤ 65536 }
     ensures { IsStagedDrop T.codec from to log.old log.new }
 {
     let mut low = [0u8; MOST_KEY_BYTES];
     let low_length = T::write_key(from, &mut low);
     let mut high = [0u8; MOST_KEY_BYTES];
-    let high_length = write_end::<T>(to, end, &mut high);
+    let high_length = write_end::<T>(to, &mut high);
     log.stage_drop(&low[..low_length], &high[..high_length])
         .unwrap();
 }
 
-/// Spells the end of a range of keys.
-fn write_end<T: Table>(to: Option<T::Key>, end: u8, out: &mut [u8]) -> usize
-    requires room { 32 ≤ length out.old }
-    requires number { T.codec.number + 1 ≡ end }
+/// Spells the end of a range of keys: a key, or the number above that of the table.
+fn write_end<T: Table>(to: Option<T::Key>, out: &mut [u8]) -> usize
+    requires { 32 ≤ length out.old }
     ensures short { result ≤ 32 }
     ensures ends { EndsRange T.codec to (take result out.new) }
 {
     match to {
         Some(to) => T::write_key(to, out),
         None => {
-            out[0] = end;
+            out[0] = T::NUMBER + 1;
             1
         }
     }

@@ -14,7 +14,7 @@ ghost use Rattle.volume_tables.specs.Counts.{one_if_key};
 use crate::fault;
 use meta_log::MetaLog;
 use plain_volume::Fault;
-use table_records::{MOST_NAME_KEY_BYTES, MOST_VALUE_BYTES, Names};
+use table_records::{MOST_NAME_KEY_BYTES, MOST_VALUE_BYTES, NameTable};
 use vdisk::Disk;
 
 /// The file of a name.
@@ -23,9 +23,9 @@ pub(crate) fn get_name<D: Disk>(log: &MetaLog<D>, name: &[u8]) -> Option<u64>
     ensures { result ≡ find bytes_cmp name.now (typed name_codec (log_now log.now)) }
 {
     let mut spelled = [0u8; MOST_NAME_KEY_BYTES];
-    let length = Names::write_key(name, &mut spelled);
+    let length = NameTable::write_key(name, &mut spelled);
     match log.get(&spelled[..length]) {
-        Some(bytes) => Some(Names::read_value(bytes)),
+        Some(bytes) => Some(NameTable::read_value(bytes)),
         None => None,
     }
 }
@@ -37,12 +37,12 @@ pub(crate) fn next_name<'a, D: Disk>(log: &'a MetaLog<D>, after: &[u8]) -> Optio
         option_map (λ p. (p.0.now, p.1)) result ≡ next_in bytes_cmp after.now (typed name_codec (log_now log.now)) }
 {
     let mut spelled = [0u8; MOST_NAME_KEY_BYTES];
-    let length = Names::write_key(after, &mut spelled);
+    let length = NameTable::write_key(after, &mut spelled);
     match log.next(&spelled[..length]) {
         None => None,
-        Some((key, value)) => match Names::read_key(key) {
+        Some((key, value)) => match NameTable::read_key(key) {
             None => None,
-            Some(name) => Some((name, Names::read_value(value))),
+            Some(name) => Some((name, NameTable::read_value(value))),
         },
     }
 }
@@ -65,9 +65,9 @@ pub(crate) fn put_name<D: Disk>(log: &mut MetaLog<D>, name: &[u8], id: u64) -> R
     ensures { IsStagedPut name_codec name.now id log.old log.new result }
 {
     let mut spelled = [0u8; MOST_NAME_KEY_BYTES];
-    let length = Names::write_key(name, &mut spelled);
+    let length = NameTable::write_key(name, &mut spelled);
     let mut bytes = [0u8; MOST_VALUE_BYTES];
-    let size = Names::write_value(id, &mut bytes);
+    let size = NameTable::write_value(id, &mut bytes);
     fault::of_log(log.stage_put(&spelled[..length], &bytes[..size]))
 }
 
@@ -79,9 +79,9 @@ pub(crate) fn drop_names<D: Disk>(log: &mut MetaLog<D>, from: &[u8], to: &[u8])
     ensures { IsStagedDrop name_codec from.now (Some to.now) log.old log.new }
 {
     let mut low = [0u8; MOST_NAME_KEY_BYTES];
-    let low_length = Names::write_key(from, &mut low);
+    let low_length = NameTable::write_key(from, &mut low);
     let mut high = [0u8; MOST_NAME_KEY_BYTES];
-    let high_length = Names::write_key(to, &mut high);
+    let high_length = NameTable::write_key(to, &mut high);
     log.stage_drop(&low[..low_length], &high[..high_length])
         .unwrap();
 }
@@ -93,8 +93,9 @@ pub(crate) fn drop_names_from<D: Disk>(log: &mut MetaLog<D>, from: &[u8])
     ensures { IsStagedDrop name_codec from.now None log.old log.new }
 {
     let mut low = [0u8; MOST_NAME_KEY_BYTES];
-    let low_length = Names::write_key(from, &mut low);
-    log.stage_drop(&low[..low_length], &[3]).unwrap();
+    let low_length = NameTable::write_key(from, &mut low);
+    log.stage_drop(&low[..low_length], &[NameTable::NUMBER + 1])
+        .unwrap();
 }
 
 /// Stages that the names from one on are dropped, all of them or those below another. Room for the record was ensured.
@@ -114,7 +115,7 @@ pub(crate) fn drop_name_range<D: Disk>(log: &mut MetaLog<D>, from: &[u8], to: Op
 fn name_at(key: &[u8]) -> u64
     ensures { result ≡ one_if_key (name_codec.read_key key.now) }
 {
-    match Names::read_key(key) {
+    match NameTable::read_key(key) {
         Some(_) => 1,
         None => 0,
     }

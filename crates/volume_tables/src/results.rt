@@ -1,6 +1,6 @@
-//! How the last jobs ended is set, and staged for a commit.
+//! How the last jobs ended: read, set, and staged for a commit.
 
-ghost use Rattle.std.specs.Prelude.{◌≡◌, ◌≤◌, ◌+◌, ◌*◌, true, IsSome};
+ghost use Rattle.std.specs.Prelude.{◌≡◌, ◌≤◌, ◌+◌, ◌*◌, true, Some, IsSome};
 ghost use Rattle.std.specs.FinMap.Entries.{find, is_sorted};
 ghost use Rattle.byte_map.specs.Words.{bytes_cmp};
 ghost use Rattle.meta_log.specs.Log.{checkpoint_length};
@@ -20,7 +20,7 @@ use crate::ends::{JobEnd, JobEnds};
 use crate::raw;
 use crate::tables::Tables;
 use meta_log::MetaLog;
-use table_records::{JobKind, ResultRecord, Results};
+use table_records::{JobKind, ResultRecord, ResultTable};
 use vdisk::Disk;
 
 impl JobEnds {
@@ -60,7 +60,7 @@ fn put_end<D: Disk>(log: &mut MetaLog<D>, kind: JobKind, end: ResultRecord)
     ensures checkpoint { checkpoint_length (log_now log.new) ≡ checkpoint_length (log_now log.old) }
     ensures quiet { IsQuiet log.old log.new }
 {
-    raw::put::<D, Results>(log, kind, end).unwrap();
+    raw::put::<D, ResultTable>(log, kind, end).unwrap();
 }
 
 /// Stages how the last job of a kind ended, where that is not staged.
@@ -107,19 +107,25 @@ pub(crate) fn stage_ends<D: Disk>(log: &mut MetaLog<D>, ends: &mut JobEnds)
 }
 
 impl<D: Disk> Tables<D> {
-    ghost use Rattle.volume_tables.specs.Tables.{tables_now, states_of, staged_of, checkpoint_of, disk_of, stopped, Leaves};
+    ghost use Rattle.volume_tables.specs.Results.{IsResultSet};
+    ghost use Rattle.volume_tables.specs.Tables.{tables_now};
+
+    /// The record of the last job of a kind.
+    pub fn get_result(&self, kind: JobKind) -> ResultRecord
+        ensures { find kind_cmp kind (tables_now self.now).results ≡ Some result }
+    {
+        match kind {
+            JobKind::Optimization => self.ends.optimization.last,
+            JobKind::GarbageCollection => self.ends.garbage_collection.last,
+            JobKind::Scrubbing => self.ends.scrubbing.last,
+            JobKind::Unoptimization => self.ends.unoptimization.last,
+        }
+    }
 
     /// Sets how the last job of a kind ended. The next commit makes it durable; until then it is lost with these
     /// tables. It takes no memory, and no room for records.
     pub fn set_result(&mut self, kind: JobKind, end: ResultRecord)
-        ensures now { tables_now self.new ≡ with_result kind end (tables_now self.old) }
-        ensures log { self.new.log ≡ self.old.log }
-        ensures leaves { Leaves self.old self.new }
-        ensures states { states_of self.new ≡ states_of self.old }
-        ensures staged { staged_of self.new ≡ staged_of self.old }
-        ensures checkpoint { checkpoint_of self.new ≡ checkpoint_of self.old }
-        ensures image { (disk_of self.new).image ≡ (disk_of self.old).image }
-        ensures running { stopped self.new ≡ stopped self.old }
+        ensures { IsResultSet kind end self.old self.new }
     {
         let staged = self.ends.of(kind).staged;
         self.ends.set(kind, JobEnd { last: end, staged });

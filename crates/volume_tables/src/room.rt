@@ -1,6 +1,6 @@
 //! Room for records and clusters is ensured, and ids are drawn.
 
-ghost use Rattle.std.specs.Prelude.{◌≡◌, ◌⊎◌, ◌≤◌, ◌<◌, ◌+◌, ◌^◌, ◌-◌, false, true, ◌↔◌, IsTrue, IsOk, OnOk, OnErr, IfOk, IsErrOf, Err};
+ghost use Rattle.std.specs.Prelude.{◌≡◌, ◌⊎◌, ◌≤◌, ◌<◌, ◌+◌, ◌-◌, false, true, ◌↔◌, IsTrue, IsOk, OnOk, OnErr, IsErrOf, Err};
 ghost use Rattle.vdisk.specs.Causes.{Rose};
 ghost use Rattle.vdisk.specs.Steps.{Keeps};
 ghost use Rattle.cluster_space.specs.States.{free_in, deferred_in};
@@ -18,7 +18,8 @@ use vdisk::Disk;
 pub const MOST_RECORDS: usize = 65_472;
 
 impl<D: Disk> Tables<D> {
-    ghost use Rattle.volume_tables.specs.Tables.{tables_now, inside_now, view_now, states_of, staged_of, checkpoint_of, disk_of, area_of, would_wear, epochs_due, stopped, HasSpentEpochs, IsTables, IsRoomFor, GoesOn};
+    ghost use Rattle.volume_tables.specs.Tables.{tables_now, inside_now, view_now, states_of, checkpoint_of, disk_of, area_of, would_wear, stopped, IsTables, IsRoomFor, GoesOn};
+    ghost use Rattle.volume_tables.specs.Pending.{pending_of, worn_out, after_commit};
 
     /// Whether records of so many bytes and so many clusters find room without a commit.
     fn has_room(&self, records: usize, clusters: u32) -> bool
@@ -59,18 +60,15 @@ impl<D: Disk> Tables<D> {
         ensures wears { (IsRoomFor self.old records clusters → ⊥) →
             clusters ≤ free_in (states_of self.old) + deferred_in (states_of self.old) →
             IsTrue (would_wear self.old) → IsErrOf result Fault.Worn }
-        ensures tires { self.new.worn ≡ true → IsTrue (would_wear self.old) }
         ensures at_once { IsRoomFor self.old records clusters → IsOk result × (self.new ≡ self.old) }
+        ensures pending { (IsRoomFor self.old records clusters → ⊥) →
+            OnOk result (pending_of self.new ≡ after_commit self.old) }
+        ensures tired { IsErrOf result Fault.Worn → pending_of self.new ≡ worn_out (pending_of self.old) }
         ensures unspent { OnErr result (IsErrOf result Fault.Failed ⊎
             ((self.new.log.disk ≡ self.old.log.disk) × (states_of self.new ≡ states_of self.old))) }
         ensures still_stored { (stored : Typed) → IsTables self.old stored →
             OnErr result (IsErrOf result Fault.Failed ⊎ IsTables self.new stored) }
-        ensures epoch { stopped self.new ≡ false → log_epoch self.new.log ≤ log_epoch self.old.log + 1 }
-        ensures spends { (IsRoomFor self.old records clusters → ⊥) →
-            OnOk result (log_epoch self.new.log ≡ log_epoch self.old.log + epochs_due self.old) }
         ensures same_epoch { OnErr result (log_epoch self.new.log ≡ log_epoch self.old.log) }
-        ensures spent { (stored : Typed) → IsTables self.old stored → (IsRoomFor self.old records clusters → ⊥) →
-            OnOk result (HasSpentEpochs self.old self.new) }
         ensures moment { (disk_of self.old).moment ≤ (disk_of self.new).moment }
         ensures failed { IsErrOf result Fault.Failed →
             Rose (disk_of self.old).faults (disk_of self.new).faults × (stopped self.new ≡ true) }

@@ -1,6 +1,8 @@
-//! The settings are set.
+//! The settings.
 
-ghost use Rattle.std.specs.Prelude.{◌≡◌, ◌≤◌, ◌+◌, OnOk, OnErr};
+ghost use Rattle.std.specs.Prelude.{◌≡◌, ◌≤◌, ◌+◌, Some, OnOk, OnErr};
+ghost use Rattle.std.specs.FinMap.Entries.{find};
+ghost use Rattle.table_records.specs.Keys.{single_cmp};
 ghost use Rattle.table_records.specs.Settings.{settings_bytes, AreSpellable};
 ghost use Rattle.volume_inside.specs.Changes.{with_settings};
 ghost use Rattle.volume_tables.specs.Sizes.{settings_size, settings_size_of};
@@ -14,6 +16,13 @@ use vdisk::Disk;
 
 impl<D: Disk> Tables<D> {
     ghost use Rattle.volume_tables.specs.Tables.{tables_now, states_of, staged_of, Leaves, IsResized};
+
+    /// The settings.
+    pub fn settings(&self) -> &Settings
+        ensures { find single_cmp tt (tables_now self.now).settings ≡ Some result.now }
+    {
+        &self.settings
+    }
 
     /// Sets the settings. Room for six bytes of records and those of the settings was ensured. `TableFull` is found
     /// before memory is taken.

@@ -1,4 +1,4 @@
-use Rattle.ddpsh.proofs.OneOutput.{item_same}
+use Rattle.ddpsh.proofs.OneRun.{item_same}
 use Rattle.ddpsh.proofs.laws.items_have_one_answer.Goals as goal
 
 pub returns : goal.returns

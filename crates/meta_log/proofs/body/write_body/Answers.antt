@@ -42,8 +42,8 @@ returns-clause-digest g c =
     let one = c.update.ensures [] c.new-hasher.ensures in
     let two = c.update-2.ensures epoch one in
     let all : Holds256 c.put_pairs.new.self.hasher ((epoch ++ long) ++ body) = c.in_ok-put_pairs.ensures.hashed (epoch ++ long) two in
-    let is : (epoch ++ long) ++ body ≡ (big_bytes 8 c.args.front.0 ++ big_bytes 4 c.args.front.1) ++ body = λ k. (c.to_be_bytes.ensures k ++ c.to_be_bytes-2.ensures k) ++ body in
-    c.finish.ensures.digest ((big_bytes 8 c.args.front.0 ++ big_bytes 4 c.args.front.1) ++ body) (subst (λ (q : List ℕ). Holds256 c.put_pairs.new.self.hasher q) is all)
+    let is : (epoch ++ long) ++ body ≡ (big_bytes 8 c.args.numbers.0 ++ big_bytes 4 c.args.numbers.1) ++ body = λ k. (c.to_be_bytes.ensures k ++ c.to_be_bytes-2.ensures k) ++ body in
+    c.finish.ensures.digest ((big_bytes 8 c.args.numbers.0 ++ big_bytes 4 c.args.numbers.1) ++ body) (subst (λ (q : List ℕ). Holds256 c.put_pairs.new.self.hasher q) is all)
 
 pub returns-clause-within : goal.returns-clause-within
 returns-clause-within g c =

@@ -1,20 +1,21 @@
-use Rattle.table_records.proofs.Belongs.{volume_belongs, name_belongs, file_belongs, extent_belongs, settings_belongs, result_belongs}
+use Rattle.table_records.specs.Tables.{volume_codec, name_codec, file_codec, extent_codec, settings_codec, result_codec}
+use Rattle.table_records.proofs.Belongs.{belongs, volume_is_table, name_is_table, file_is_table, extent_is_table, settings_are_table, result_is_table}
 use Rattle.table_records.proofs.laws.pairs_belong_by_their_numbers.Goals as goal
 
 pub returns-clause-volume : goal.returns-clause-volume
-returns-clause-volume c = volume_belongs
+returns-clause-volume c = belongs volume_codec volume_is_table
 
 pub returns-clause-names : goal.returns-clause-names
-returns-clause-names c = name_belongs
+returns-clause-names c = belongs name_codec name_is_table
 
 pub returns-clause-files : goal.returns-clause-files
-returns-clause-files c = file_belongs
+returns-clause-files c = belongs file_codec file_is_table
 
 pub returns-clause-extents : goal.returns-clause-extents
-returns-clause-extents c = extent_belongs
+returns-clause-extents c = belongs extent_codec extent_is_table
 
 pub returns-clause-settings : goal.returns-clause-settings
-returns-clause-settings c = settings_belongs
+returns-clause-settings c = belongs settings_codec settings_are_table
 
 pub returns-clause-results : goal.returns-clause-results
-returns-clause-results c = result_belongs
+returns-clause-results c = belongs result_codec result_is_table

@@ -7,5 +7,5 @@ use Rattle.table_rules.proofs.entries.extents_hold.Goals as goal
 pub returns : goal.returns
 returns c =
     let m = c.args.map.now in
-    let P = ExtentHolds c.args.clusters (typed_of m) in
+    let P = ExtentHolds c.args.clusters (typed_of m).files in
     (λ e. each_of_pairs extent_codec P m (c.each.ensures.0 e), λ all. c.each.ensures.1 (pairs_of_each extent_codec P m all))

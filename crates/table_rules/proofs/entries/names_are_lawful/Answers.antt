@@ -7,4 +7,5 @@ use Rattle.table_rules.proofs.entries.names_are_lawful.Goals as goal
 pub returns : goal.returns
 returns c =
     let m = c.args.map.now in
-    (λ e. each_of_pairs name_codec (NameHolds (typed_of m)) m (c.each.ensures.0 e), λ all. c.each.ensures.1 (pairs_of_each name_codec (NameHolds (typed_of m)) m all))
+    let P = NameHolds (typed_of m).files in
+    (λ e. each_of_pairs name_codec P m (c.each.ensures.0 e), λ all. c.each.ensures.1 (pairs_of_each name_codec P m all))

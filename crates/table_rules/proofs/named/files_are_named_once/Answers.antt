@@ -13,8 +13,8 @@ returns c =
     let m = c.args.map.now in
     let t = typed_of m in
     let ids = c.args.ids.now in
-    let same : (id : ℕ) → length (names_of id t) ≡ times id ids =
+    let same : (id : ℕ) → length (names_of id t.names) ≡ times id ids =
     λ id. times_named id t.names ∙ sym (times_permuted id (ids_of t.names) ids c.requires.same) in (
-      λ e. each_weaker (IsOnceIn ids) (IsNamedOnce t) t.files (λ id file once. same id ∙ once) (each_of_pairs file_codec (IsOnceIn ids) m (c.each.ensures.0 e)),
-      λ all. c.each.ensures.1 (pairs_of_each file_codec (IsOnceIn ids) m (each_weaker (IsNamedOnce t) (IsOnceIn ids) t.files (λ id file once. sym (same id) ∙ once) all)),
+      λ e. each_weaker (IsOnceIn ids) (IsNamedOnce t.names) t.files (λ id file once. same id ∙ once) (each_of_pairs file_codec (IsOnceIn ids) m (c.each.ensures.0 e)),
+      λ all. c.each.ensures.1 (pairs_of_each file_codec (IsOnceIn ids) m (each_weaker (IsNamedOnce t.names) (IsOnceIn ids) t.files (λ id file once. sym (same id) ∙ once) all)),
     )

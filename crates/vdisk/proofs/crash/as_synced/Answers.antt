@@ -11,9 +11,9 @@ returns c =
     let es = reverse c.args.events.now in
     let copied : c.in_ok-synced.synced.items ≡ image = search rules in
     let lent : c.deref_mut.result.now ≡ image = search rules in
-    let long : length c.undo.new.image ≡ length image = c.undo.auto.image ∙ ap length lent in
-    let count : length c.undo.new.image ≡ c.in_ok-synced.synced.len = omega (arith, long, ap length copied, c.in_ok-synced.synced.ok.0) in
-    let new : take c.in_ok-synced.synced.len (c.undo.new.image ++ drop (length c.undo.new.image) c.in_ok-synced.synced.items) ≡ c.undo.new.image = take_at c.undo.new.image _ _ count in
+    let long : length c.undo_unsynced.new.image ≡ length image = c.undo_unsynced.auto.image ∙ ap length lent in
+    let count : length c.undo_unsynced.new.image ≡ c.in_ok-synced.synced.len = omega (arith, long, ap length copied, c.in_ok-synced.synced.ok.0) in
+    let new : take c.in_ok-synced.synced.len (c.undo_unsynced.new.image ++ drop (length c.undo_unsynced.new.image) c.in_ok-synced.synced.items) ≡ c.undo_unsynced.new.image = take_at c.undo_unsynced.new.image _ _ count in
     subst (λ (l : List ℕ). IsPicked image es 0 l) (sym new)
-    (synced_picked image c.undo.new.image es long
-    (λ i low. c.undo.ensures i (omega (arith, low, ap length lent)) ∙ ap (λ (l : List ℕ). byte_at_sync es i (get_or l i 0)) lent))
+    (synced_picked image c.undo_unsynced.new.image es long
+    (λ i low. c.undo_unsynced.ensures i (omega (arith, low, ap length lent)) ∙ ap (λ (l : List ℕ). byte_at_sync es i (get_or l i 0)) lent))

@@ -192,3 +192,17 @@ returns-in-Err-clause-halts g t c failed =
     (λ later. inr (reads_later c.args.file c.args.index c.args.at (length c.args.bytes.now) (tables_now a)
     (tables_now u) c.in_ok-written.written.extent c.in_ok-written.ensures.ok later))
     (c.in-Err.ensures.halts failed)
+
+pub returns-in-Ok-clause-staged : goal.returns-in-Ok-clause-staged
+returns-in-Ok-clause-staged g t c =
+    let to : ℕ = c.args.at + length c.args.bytes.now in
+    let low : 4096 * c.args.index < to = omega arith in
+    let fewer : blocks_up_to to (c.args.index + 1) + 1 ≡ blocks_up_to to c.args.index = omega arith in
+    omega (arith, fewer, c.in_ok-written.ensures.staged, c.in-Ok.ensures.staged)
+
+pub returns-in-Ok-clause-taken : goal.returns-in-Ok-clause-taken
+returns-in-Ok-clause-taken g t c =
+    let to : ℕ = c.args.at + length c.args.bytes.now in
+    let low : 4096 * c.args.index < to = omega arith in
+    let fewer : blocks_up_to to (c.args.index + 1) + 1 ≡ blocks_up_to to c.args.index = omega arith in
+    omega (arith, fewer, c.in_ok-written.ensures.free, c.in-Ok.ensures.taken)

@@ -1,4 +1,4 @@
-use Rattle.std.proofs.Common.{◌≡◌, [], Err, Result, inl, sym, ap, subst, refl, rules}
+use Rattle.std.proofs.Common.{◌≡◌, [], Err, Result, inl, sym, ◌∙◌, ap, subst, refl, rules}
 use Rattle.plain_volume.specs.Replies.{done_reply}
 use Rattle.plain_volume.specs.Step.{Outcome, plain}
 use Rattle.plain_volume.specs.Volume.{with_file}
@@ -10,12 +10,14 @@ use Rattle.volume_tables.proofs.Endured.{endures_leaves}
 use Rattle.volume_tables.proofs.Finished.{finished_reply, finished_left}
 use Rattle.volume_tables.proofs.Wanted.{replied_want}
 use Rattle.volume_files.specs.Names.{with_new}
-use Rattle.volume_files.specs.Needs.{create_needs}
+use Rattle.volume_files.specs.Needs.{create_needs, create_bytes}
 use Rattle.volume_files.proofs.NewFile.{answered_new, view_made, view_unmade, sound_made}
 use Rattle.volume_files.proofs.Spent.{spends_none, spends_new}
 use Rattle.volume_files.specs.Insides.{inside_created}
 use Rattle.volume_files.proofs.Insides.{inside_left, inside_unleft, inside_new}
 use Rattle.std.proofs.lemmas.Result.{on_ok_weaker, on_err_weaker}
+use Rattle.cluster_space.specs.States.{free_in}
+use Rattle.volume_files.proofs.Pending.{memory_not_worn, pending_refused, pending_staged}
 use Rattle.volume_files.proofs.creating.create.Goals as goal
 
 pub returns-in_err-make_room-clause-reply : goal.returns-in_err-make_room-clause-reply
@@ -102,3 +104,31 @@ returns-clause-err_inside g c =
     on_err_weaker c.put_file.result
     (inside_unleft c.args.tables.now c.make_room.new.tables c.put_file.new.tables c.make_room.ensures.inside put.image)
     put.err
+
+pub returns-in_err-check_new-clause-pending : goal.returns-in_err-check_new-clause-pending
+returns-in_err-check_new-clause-pending g c =
+    let t = c.args.tables.now in
+    let name = c.args.name.now in
+    let r = c.from_residual.result in
+    let is : r ≡ Err c.in_err-check_new.field-0.0 = search rules in
+    pending_refused t t (create_needs name) (create_bytes name) r (search rules)
+    (λ worn. absurd (c.in_err-check_new.ensures.not_worn (sym is ∙ worn)))
+
+pub returns-in_err-make_room-clause-pending : goal.returns-in_err-make_room-clause-pending
+returns-in_err-make_room-clause-pending g c =
+    let t = c.args.tables.now in
+    let name = c.args.name.now in
+    let r = c.from_residual-in_err-make_room.result in
+    let is : r ≡ Err c.in_err-make_room.field-0.0 = search rules in
+    pending_refused t c.make_room.new.tables (create_needs name) (create_bytes name) r (search rules)
+    (λ worn. c.in_err-make_room.ensures.worn (sym is ∙ worn))
+
+pub returns-clause-pending : goal.returns-clause-pending
+returns-clause-pending g c =
+    let t = c.args.tables.now in
+    let m = c.make_room.new.tables in
+    let name = c.args.name.now in
+    let put = c.put_file.ensures in
+    pending_staged t m c.put_file.new.tables (create_needs name) c.in_ok-make_room.ensures.pending refl
+    (create_bytes name) put.leaves c.put_file.result put.staged (λ i. free_in (put.states i))
+    (memory_not_worn c.put_file.result put.refused)

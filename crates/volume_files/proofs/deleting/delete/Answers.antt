@@ -1,4 +1,5 @@
-use Rattle.std.proofs.Common.{◌+◌, length}
+use Rattle.std.proofs.Common.{◌≡◌, ℕ, Err, sym, subst, refl, rules}
+use Rattle.plain_volume.specs.declared.call.Fault.{Fault}
 use Rattle.volume_inside.specs.Typed.{Typed}
 use Rattle.volume_tables.specs.Tables.{tables_now, clusters_in}
 use Rattle.volume_tables.proofs.Endured.{endures_leaves}
@@ -13,6 +14,10 @@ use Rattle.byte_map.specs.Words.{bytes_cmp}
 use Rattle.volume_tables.specs.Tables.{disk_of}
 use Rattle.volume_files.specs.Insides.{inside_deleted}
 use Rattle.volume_files.specs.Names.{without_name}
+use Rattle.volume_files.specs.Needs.{delete_needs, delete_bytes}
+use Rattle.volume_tables.specs.Stages.{Stages}
+use Rattle.volume_files.proofs.Pending.{err_same, pending_refused, pending_stages}
+use Rattle.volume_tables.proofs.Stagings.{stages_as}
 use Rattle.volume_files.proofs.Insides.{inside_left, inside_gone}
 use Rattle.volume_files.proofs.deleting.delete.Goals as goal
 
@@ -37,7 +42,7 @@ returns-clause-left g c =
     let room = c.make_room.ensures in
     view_left_gone t m c.drop_all.new.tables c.args.name.now c.in_ok-id.id c.in_ok-id.field-0-1 c.in_ok-id.ensures.found
     room.now room.inside room.sound
-    (316 + length c.args.name.now) c.drop_all.ensures.stages c.drop_all.ensures.tables
+    (delete_bytes (tables_now m).names c.args.name.now) c.drop_all.ensures.stages c.drop_all.ensures.tables
 
 pub returns-clause-sound : goal.returns-clause-sound
 returns-clause-sound g c =
@@ -46,7 +51,7 @@ returns-clause-sound g c =
     let room = c.make_room.ensures in
     sound_gone t m c.drop_all.new.tables c.args.name.now c.in_ok-id.id c.in_ok-id.field-0-1 c.in_ok-id.ensures.found
     room.now room.inside room.sound
-    (316 + length c.args.name.now) c.drop_all.ensures.stages c.drop_all.ensures.tables
+    (delete_bytes (tables_now m).names c.args.name.now) c.drop_all.ensures.stages c.drop_all.ensures.tables
 
 pub returns-clause-endures : goal.returns-clause-endures
 returns-clause-endures g c =
@@ -74,3 +79,31 @@ returns-clause-inside g c =
     inside_left t m c.drop_all.new.tables c.make_room.ensures.inside c.drop_all.ensures.stages.image
     (inside_deleted name) (without_name name id (tables_now m)) (inside_gone (tables_now m) (disk_of m).image name id named)
     c.drop_all.ensures.tables
+
+pub returns-in_err-id-clause-pending : goal.returns-in_err-id-clause-pending
+returns-in_err-id-clause-pending g c =
+    let t = c.args.tables.now in
+    let name = c.args.name.now in
+    let r = c.from_residual.result in
+    let is : r ≡ Err c.in_err-id.field-0.0 = search rules in
+    pending_refused t t (delete_needs name) (delete_bytes (tables_now t).names name) r (search rules)
+    (λ worn. absurd (c.in_err-id.ensures.not_worn (err_same (sym is ∙ worn))))
+
+pub returns-in_err-make_room-clause-pending : goal.returns-in_err-make_room-clause-pending
+returns-in_err-make_room-clause-pending g c =
+    let t = c.args.tables.now in
+    let name = c.args.name.now in
+    let r = c.from_residual-in_err-make_room.result in
+    let is : r ≡ Err c.in_err-make_room.field-0.0 = search rules in
+    pending_refused t c.make_room.new.tables (delete_needs name) (delete_bytes (tables_now t).names name) r
+    (search rules) (λ worn. c.in_err-make_room.ensures.worn (sym is ∙ worn))
+
+pub returns-clause-pending : goal.returns-clause-pending
+returns-clause-pending g c =
+    let t = c.args.tables.now in
+    let m = c.make_room.new.tables in
+    let name = c.args.name.now in
+    let bytes = ap (λ (q : Typed). delete_bytes q.names name) c.make_room.ensures.now in
+    pending_stages t m c.drop_all.new.tables (delete_needs name) c.in_ok-make_room.ensures.pending refl
+    (delete_bytes (tables_now t).names name)
+    (stages_as (delete_bytes (tables_now m).names name) _ m c.drop_all.new.tables c.drop_all.ensures.stages bytes)

@@ -1,4 +1,4 @@
-use Rattle.std.proofs.Common.{◌≡◌, ◌+◌, ◌∙◌, ℕ, length, Err, Result, inl, sym, ap, subst, rules}
+use Rattle.std.proofs.Common.{◌≡◌, ◌∙◌, ℕ, List, Some, Err, Result, inl, sym, ap, subst, refl, rules}
 use Rattle.plain_volume.specs.Replies.{done_reply}
 use Rattle.plain_volume.specs.Step.{Outcome, plain}
 use Rattle.plain_volume.specs.Volume.{Volume, with_file, without_file}
@@ -10,9 +10,12 @@ use Rattle.volume_tables.specs.Wants.{wanting, is_late, IsRepliedOrMemory}
 use Rattle.volume_tables.proofs.Endured.{endures_leaves}
 use Rattle.volume_tables.proofs.Finished.{finished_reply, finished_left}
 use Rattle.volume_tables.proofs.Wanted.{replied_want}
-use Rattle.volume_files.specs.Needs.{rename_needs}
+use Rattle.volume_files.specs.Needs.{rename_needs, rename_bytes}
+use Rattle.volume_tables.specs.Stages.{if_ok, Stages}
 use Rattle.volume_files.proofs.OneName.{short_names}
 use Rattle.volume_files.proofs.OtherName.{answered_renamed, view_put, view_unput, sound_put}
+use Rattle.volume_files.proofs.Pending.{err_same, found_same, memory_not_worn, pending_refused, pending_staged}
+use Rattle.volume_tables.proofs.Stagings.{staged_ok}
 use Rattle.volume_files.proofs.Spent.{spends_none, spends_renamed}
 use Rattle.std.proofs.lemmas.Result.{on_ok_weaker, on_err_weaker}
 use Rattle.std.specs.FinMap.{find}
@@ -65,11 +68,11 @@ returns-clause-left g c =
     let is = c.in_ok-id.ensures.found in
     let room = c.make_room.ensures in
     let put = c.put_name.ensures in
-    let most : ℕ = 276 + (length from + length to) in
+    let bytes : ℕ = if_ok c.put_name.result (rename_bytes (tables_now m).names from to id) in
     let after : Volume = with_file to (file_cells (inside_now t) id) (without_file from (view_now t)) in
     finished_left (view_now t) after (Rename from to) (answered_renamed t from to id is) (view_now p) c.put_name.result
-    (view_put t m p from to id is room.now room.inside room.sound most put.stages c.put_name.result put.ok put.err)
-    (view_unput t m p from to id is room.now room.inside room.sound most put.stages c.put_name.result put.ok put.err)
+    (view_put t m p from to id is room.now room.inside room.sound bytes put.stages c.put_name.result put.ok put.err)
+    (view_unput t m p from to id is room.now room.inside room.sound bytes put.stages c.put_name.result put.ok put.err)
 
 pub returns-clause-sound : goal.returns-clause-sound
 returns-clause-sound g c =
@@ -77,7 +80,7 @@ returns-clause-sound g c =
     let put = c.put_name.ensures in
     sound_put c.args.tables.now c.make_room.new.tables c.put_name.new.tables c.args.from.now c.args.to.now c.in_ok-id.id
     c.in_ok-id.ensures.found
-    room.now room.inside room.sound (276 + (length c.args.from.now + length c.args.to.now)) put.stages c.put_name.result
+    room.now room.inside room.sound _ put.stages c.put_name.result
     put.ok put.err
 
 pub returns-clause-endures : goal.returns-clause-endures
@@ -116,3 +119,40 @@ returns-clause-err_inside g c =
     on_err_weaker c.put_name.result
     (inside_unleft c.args.tables.now c.make_room.new.tables c.put_name.new.tables c.make_room.ensures.inside
     put.stages.image) put.err
+
+pub returns-in_err-id-clause-pending : goal.returns-in_err-id-clause-pending
+returns-in_err-id-clause-pending g c id named =
+    let t = c.args.tables.now in
+    let from = c.args.from.now in
+    let to = c.args.to.now in
+    let r = c.from_residual.result in
+    let is : r ≡ Err c.in_err-id.field-0.0 = search rules in
+    pending_refused t t (rename_needs from to) (rename_bytes (tables_now t).names from to id) r (search rules)
+    (λ worn. absurd (c.in_err-id.ensures.not_worn (err_same (sym is ∙ worn))))
+
+pub returns-in_err-make_room-clause-pending : goal.returns-in_err-make_room-clause-pending
+returns-in_err-make_room-clause-pending g c id named =
+    let t = c.args.tables.now in
+    let from = c.args.from.now in
+    let to = c.args.to.now in
+    let r = c.from_residual-in_err-make_room.result in
+    let is : r ≡ Err c.in_err-make_room.field-0.0 = search rules in
+    pending_refused t c.make_room.new.tables (rename_needs from to) (rename_bytes (tables_now t).names from to id) r
+    (search rules) (λ worn. c.in_err-make_room.ensures.worn (sym is ∙ worn))
+
+pub returns-clause-pending : goal.returns-clause-pending
+returns-clause-pending g c id named =
+    let t = c.args.tables.now in
+    let m = c.make_room.new.tables in
+    let p = c.put_name.new.tables in
+    let from = c.args.from.now in
+    let to = c.args.to.now in
+    let put = c.put_name.ensures in
+    let same = found_same (sym c.in_ok-id.ensures.found.named ∙ named) in
+    let bytes : rename_bytes (tables_now m).names from to c.in_ok-id.id ≡ rename_bytes (tables_now t).names from to id =
+    (λ i. rename_bytes (c.make_room.ensures.now i).names from to (same i)) in
+    pending_staged t m p (rename_needs from to) c.in_ok-make_room.ensures.pending refl
+    (rename_bytes (tables_now t).names from to id) put.stages.leaves c.put_name.result
+    (staged_ok c.put_name.result (rename_bytes (tables_now m).names from to c.in_ok-id.id)
+    (rename_bytes (tables_now t).names from to id) m p put.stages bytes) put.stages.free
+    (memory_not_worn c.put_name.result put.refused)

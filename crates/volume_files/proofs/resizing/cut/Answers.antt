@@ -21,13 +21,15 @@ returns-clause-stages g c =
     let s = c.drop_extent.new.self in
     let e = c.drop_extent.ensures in
     let most = set_at_end (tables_now t) c.args.id c.args.length in
+    let known = dropped_known u s (λ k. is_in_range pair_cmp (c.args.id, (c.args.length + 4095) / 4096)
+    (Some (c.args.id + 1, 0)) k) e.tables e.states in
     stages_then g.met.D.Disk.same_next most 31 (31 + most) t u s c.cut_end.ensures.stages
     (record {
       leaves = e.leaves;
       image = e.image;
       running = e.running;
       staged = e.staged;
-      counts = dropped_known u s (λ k. is_in_range pair_cmp (c.args.id, (c.args.length + 4095) / 4096)
-          (Some (c.args.id + 1, 0)) k) e.tables e.states;
+      free = known.0;
+      counts = known.1;
     })
     (omega arith)

@@ -7,10 +7,10 @@ use Rattle.volume_tables.specs.Clusters.{HasState}
 use Rattle.volume_tables.specs.Log.{log_now}
 use Rattle.volume_tables.specs.Tables.{tables_now, states_of, staged_of}
 use Rattle.volume_tables.proofs.Leaving.{found_used}
-use Rattle.volume_tables.proofs.Stagings.{as_ok}
 use Rattle.volume_files.specs.Needs.{set_at_end}
 use Rattle.volume_files.proofs.Counted.{same_known}
 use Rattle.volume_files.proofs.CutExtents.{cut_means, cut_is_cut}
+use Rattle.volume_tables.proofs.Stagings.{as_ok}
 use Rattle.volume_files.proofs.resizing.cut_end.Goals as goal
 
 pub set_extent-requires-clause-taken : goal.set_extent-requires-clause-taken
@@ -35,12 +35,14 @@ returns-in-Some-clause-stages g c =
     ap (λ (b : Bool). cond b 24 0) (cut_is_cut (c.args.length % 4096) was c.in-Some.extent is) in
     let more : staged_of u ≡ staged_of t + 24 =
     as_ok _ c.set_extent.result c.unwrap.result c.unwrap.ensures s.set.staged in
+    let known = same_known t u k c.in-Some.extent h.old h.there h.cluster
+    (as_ok _ c.set_extent.result c.unwrap.result c.unwrap.ensures s.ok)
+    (as_ok _ c.set_extent.result c.unwrap.result c.unwrap.ensures s.replaced) in
     record {
       leaves = s.leaves;
       image = s.set.image;
       running = s.set.running;
       staged = omega (arith, most, more);
-      counts = same_known t u k c.in-Some.extent h.old h.there h.cluster
-          (as_ok _ c.set_extent.result c.unwrap.result c.unwrap.ensures s.ok)
-          (as_ok _ c.set_extent.result c.unwrap.result c.unwrap.ensures s.replaced);
+      free = known.0;
+      counts = known.1;
     }

@@ -1,4 +1,4 @@
-use Rattle.std.proofs.Common.{◌<◌, length, ◌∙◌, ap, rules, arith}
+use Rattle.std.proofs.Common.{◌≡◌, ◌<◌, length, Err, sym, ◌∙◌, ap, rules, arith}
 use Rattle.std.proofs.lemmas.Result.{on_ok_weaker}
 use Rattle.plain_volume.specs.Volume.{overwritten, with_file}
 use Rattle.plain_volume.specs.Step.{write}
@@ -6,7 +6,8 @@ use Rattle.volume_inside.specs.Inside.{Inside}
 use Rattle.volume_inside.specs.View.{file_cells}
 use Rattle.volume_tables.specs.Tables.{tables_now, inside_now, disk_of}
 use Rattle.volume_tables.proofs.Endured.{endures_leaves}
-use Rattle.volume_files.specs.Needs.{touched_at}
+use Rattle.volume_files.specs.Needs.{touched_at, write_needs, write_bytes}
+use Rattle.volume_files.proofs.Pending.{neither_worn, pending_after, write_pending, write_refused}
 use Rattle.volume_files.specs.Writing.{write_wants}
 use Rattle.volume_files.proofs.WriteReplies.{done, file_is_whole, reply_there, wants_some, still_kept}
 use Rattle.volume_files.proofs.Spent.{spends_none, spends_written}
@@ -64,3 +65,24 @@ returns-clause-inside g c w kept =
     (λ written. written ∙ ap (λ (i : Inside). id_written c.args.file c.args.at c.args.bytes.now i)
     c.make_room_for_write.ensures.inside)
     (c.write_with_room.ensures.inside still.0 still.1)
+
+pub returns-in_err-make_room_for_write-clause-pending : goal.returns-in_err-make_room_for_write-clause-pending
+returns-in_err-make_room_for_write-clause-pending g c =
+    let r = c.from_residual.result in
+    let is : r ≡ Err c.in_err-make_room_for_write.field-0.0 = search rules in
+    write_refused c.args.tables.now c.make_room_for_write.new.tables c.args.file c.args.at c.args.bytes.now r
+    (search rules) (λ worn. c.in_err-make_room_for_write.ensures.worn (sym is ∙ worn))
+
+pub returns-clause-pending : goal.returns-clause-pending
+returns-clause-pending g c =
+    let t = c.args.tables.now in
+    let m = c.make_room_for_write.new.tables in
+    let s = c.write_with_room.new.tables in
+    let bytes = c.args.bytes.now in
+    let some : 0 < length bytes = search rules in
+    let r = c.write_with_room.result in
+    let w = c.write_with_room.ensures in
+    write_pending t s c.args.file c.args.at bytes r some
+    (pending_after t m s (write_needs (tables_now t) c.args.file c.args.at (length bytes))
+    c.in_ok-make_room_for_write.ensures.pending (write_bytes c.args.at (length bytes)) w.leaves r w.staged w.taken
+    (neither_worn r w.refused))

@@ -1,4 +1,4 @@
-use Rattle.std.proofs.Common.{◌+◌, ◌/◌, ℕ, length, sym, ◌∙◌, ap, subst, arith}
+use Rattle.std.proofs.Common.{◌≡◌, ◌+◌, ◌/◌, ℕ, List, length, sym, ◌∙◌, ap, subst, arith}
 use Rattle.std.specs.Prelude.{Option, IsSome}
 use Rattle.std.specs.Ordering.{nat_cmp}
 use Rattle.std.specs.FinMap.{find}
@@ -7,13 +7,14 @@ use Rattle.volume_inside.specs.Inside.{inside_at}
 use Rattle.volume_inside.specs.Typed.{Typed}
 use Rattle.volume_inside.specs.Changes.{with_file}
 use Rattle.volume_inside.specs.Rules.{RulesHold}
-use Rattle.volume_tables.specs.Tables.{tables_now, disk_of}
-use Rattle.volume_tables.proofs.Framing.{on_err_any}
+use Rattle.cluster_space.specs.States.{free_in}
+use Rattle.cluster_space.specs.declared.state.State.{State}
+use Rattle.volume_tables.specs.Tables.{tables_now, states_of, disk_of}
 use Rattle.volume_tables.proofs.Leaving.{leaves_then}
 use Rattle.volume_files.specs.Needs.{touched}
 use Rattle.volume_files.specs.Writing.{blocks_up_to}
 use Rattle.volume_files.proofs.Setting.{held_now, on_ok_there}
-use Rattle.volume_files.proofs.Written.{rules_grown, grown_short, cells_written, others_written}
+use Rattle.volume_files.proofs.Written.{rules_grown, grown_short, cells_written, others_written, on_err_any}
 use Rattle.volume_files.proofs.Spent.{spends_none, spends_then, spends_record}
 use Rattle.volume_files.proofs.Insides.{file_then}
 use Rattle.volume_files.proofs.writing.write_with_room.Goals as goal
@@ -114,3 +115,22 @@ returns-clause-inside g c stored is =
     let set = on_ok_there c.set_file.result (c.set_file.ensures.set.in_place there) c.set_file.ensures.ok in
     file_then t b s c.args.file c.args.at grown was c.args.bytes.now set c.set_file.ensures.set.image found
     (λ i. record was { length = c.max.ensures i }) c.requires.some (c.in_ok-write_blocks.ensures.inside stored is (λ k low. absurd (omega (arith, low))))
+
+pub returns-clause-staged : goal.returns-clause-staged
+returns-clause-staged g c =
+    let there = subst (λ (o : Option FileRecord). IsSome o) (sym
+    (ap (λ (q : Typed). find nat_cmp c.args.file q.files) c.in_ok-write_blocks.ensures.ok.rest)) c.requires.there in
+    let set = on_ok_there c.set_file.result (c.set_file.ensures.set.in_place there) c.set_file.ensures.set.staged in
+    let some = c.requires.some in
+    let same : blocks_up_to (c.args.at + length c.args.bytes.now) (c.args.at / 4096) ≡ touched c.args.at
+    (length c.args.bytes.now) = omega (arith, some) in
+    omega (arith, set, same, c.in_ok-write_blocks.ensures.staged)
+
+pub returns-clause-taken : goal.returns-clause-taken
+returns-clause-taken g c =
+    let some = c.requires.some in
+    let same : blocks_up_to (c.args.at + length c.args.bytes.now) (c.args.at / 4096) ≡ touched c.args.at
+    (length c.args.bytes.now) = omega (arith, some) in
+    let free : free_in (states_of c.set_file.new.self) ≡ free_in (states_of c.write_blocks.new.tables) =
+    ap (λ (xs : List State). free_in xs) c.set_file.ensures.states in
+    omega (arith, same, free, c.in_ok-write_blocks.ensures.taken)

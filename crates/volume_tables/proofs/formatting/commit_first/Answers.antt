@@ -1,11 +1,11 @@
-use Rattle.std.proofs.Common.{◌+◌, ◌≤◌, [], ap, subst, sym, ◌∙◌, length, inr, refl, arith}
+use Rattle.std.proofs.Common.{◌≡◌, ◌+◌, ◌≤◌, [], ap, subst, sym, ◌∙◌, length, inr, refl, arith}
 use Rattle.byte_map.specs.Words.{Map}
-use Rattle.meta_log.specs.Log.{IsLog, state_of, now_of, staged_of, needs_checkpoint}
+use Rattle.meta_log.specs.Log.{IsLog, state_of, now_of, staged_of, checkpoint_length}
 use Rattle.meta_log.proofs.Spends.{none_taken}
 use Rattle.vdisk.specs.Steps.{Keeps}
 use Rattle.volume_tables.specs.Formats.{SpellsNoFile}
 use Rattle.volume_tables.proofs.Committed.{committed}
-use Rattle.volume_tables.proofs.Committing.{one_or_none}
+use Rattle.volume_tables.proofs.Pended.{group_behind}
 use Rattle.volume_tables.proofs.Formatted.{first_start, first_committed, first_staged}
 use Rattle.volume_tables.proofs.formatting.commit_first.Goals as goal
 
@@ -71,23 +71,14 @@ returns-in-Err-commit g c =
       at = tt;
       half = tt;
       staged = tt;
-      epoch = tt;
       first = tt;
+      next = tt;
       runs = tt;
       refused = inr refl;
       same = tt;
       same_err = subst (λ (x : g.row.D.Denot). g.D.Disk.is_same l.disk x) (sym into)
           (subst (λ (x : g.row.D.Denot). g.D.Disk.is_same x c.commit.new.self.disk) s.disk c.commit.ensures.same);
     }
-
-pub returns-in-Ok-commit-clause-epoch : goal.returns-in-Ok-commit-clause-epoch
-returns-in-Ok-commit-clause-epoch g c =
-    omega (
-      arith,
-      c.in-Ok-commit.ensures.epoch,
-      c.stage_first.ensures.quiet.place.epoch,
-      one_or_none (needs_checkpoint c.stage_first.new.log),
-    )
 
 pub returns-in-Ok-commit-clause-first : goal.returns-in-Ok-commit-clause-first
 returns-in-Ok-commit-clause-first g c =
@@ -97,3 +88,14 @@ returns-in-Ok-commit-clause-first g c =
     (arith, place.next, place.half, c.requires.begun, c.requires.wide, s.few) in
     let none = none_taken s.half s.place (staged_of s) fits in
     omega (arith, c.in-Ok-commit.ensures.epoch, place.epoch, none)
+
+pub returns-in-Ok-commit-clause-next : goal.returns-in-Ok-commit-clause-next
+returns-in-Ok-commit-clause-next g c =
+    let s = c.stage_first.new.log in
+    let place = c.stage_first.ensures.quiet.place in
+    let staged : staged_of s ≡ 106 = omega (arith, c.in-Ok.ensures.staged, c.requires.none) in
+    let fits : s.place + (37 + staged_of s) ≤ s.half = omega
+    (arith, place.next, place.half, c.requires.begun, c.requires.wide, s.few) in
+    c.in-Ok-commit.ensures.next
+    ∙ group_behind s.half s.place (staged_of s) (checkpoint_length (now_of s)) (omega (arith, staged)) fits
+    ∙ omega (arith, staged, place.next, c.requires.begun)

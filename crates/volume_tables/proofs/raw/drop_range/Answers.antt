@@ -9,7 +9,7 @@ returns g c =
     let low = take c.write_key-low_length.result c.write_key-low_length.new.out in
     let high = take c.write_end-high_length.result c.write_end-high_length.new.out in
     let ok = drop_fits c.stage_drop.result s.full s.refused
-    (c.requires.room low high c.write_key-low_length.ensures.spelled c.write_end-high_length.ensures.ends) in
+    (c.requires low high c.write_key-low_length.ensures.spelled c.write_end-high_length.ensures.ends) in
     record {
       dropped = record {
         low = low;

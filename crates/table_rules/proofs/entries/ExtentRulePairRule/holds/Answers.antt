@@ -7,6 +7,6 @@ use Rattle.table_rules.proofs.entries.ExtentRulePairRule.holds.Goals as goal
 
 pub returns-in-Some : goal.returns-in-Some
 returns-in-Some c =
-    let t = typed_of c.args.self.now.map.now in
-    entry_meets extent_codec (ExtentHolds c.args.self.now.clusters t) c.args.key.now c.args.value.now c.read_key.result c.in-Some.key c.read_value.result c.extent_holds.result
-    c.read_key.ensures c.in-Some.is c.read_value.ensures (c.extent_holds.ensures t (sym c.get-file.ensures))
+    let files = (typed_of c.args.self.now.map.now).files in
+    entry_meets extent_codec (ExtentHolds c.args.self.now.clusters files) c.args.key.now c.args.value.now c.read_key.result c.in-Some.key c.read_value.result c.extent_holds.result
+    c.read_key.ensures c.in-Some.is c.read_value.ensures (c.extent_holds.ensures files (sym c.get-file.ensures))

@@ -1,6 +1,6 @@
 use Rattle.std.proofs.Common.{◌+◌, inl, refl, subst, List, reverse, sym, ◌∙◌, length, arith}
 use Rattle.vdisk.specs.Disk.{Follows, GrownTo}
-use Rattle.vdisk.specs.Past.{Leaves}
+use Rattle.vdisk.specs.Past.{LeftByCrash}
 use Rattle.vdisk.specs.declared.record.Change.TheVariants.{Grew}
 use Rattle.vdisk.specs.declared.record.Event.{Event}
 use Rattle.vdisk.proofs.Past.{ends_pushed, ends_same, crash_grew, grew_synced, may_grow, newest, pushed}
@@ -92,7 +92,7 @@ returns-in-Ok c =
         no_shorter = omega (arith, s.size, c.requires);
         no_longer = omega (arith, s.size);
       };
-      crash = subst (λ (es : List Event). Follows (GrownTo c.args.to) (Leaves x (reverse old)) (Leaves y es)) (sym last)
+      crash = subst (λ (es : List Event). Follows (GrownTo c.args.to) (LeftByCrash x (reverse old)) (LeftByCrash y es)) (sym last)
           (crash_grew c.args.to (length x) x y m.moment (reverse old) refl s.image s.size c.requires);
       time = record {
         adds = record { later = omega arith; since = goes.since };
@@ -108,7 +108,7 @@ returns-in-Ok c =
       synced = grew_synced (length x) m.moment x y old new refl s.image s.events;
       refused = tt;
       any_end = λ d q left grown long.
-          subst (λ (es : List Event). Leaves y es q) (sym last)
+          subst (λ (es : List Event). LeftByCrash y es q) (sym last)
           (may_grow c.args.to (length x) x y d q m.moment (reverse old) refl s.image s.size left grown long);
     }
 

@@ -1,6 +1,6 @@
 use Rattle.std.proofs.Common.{◌+◌, inl, refl, subst, List, ℕ, reverse, sym, ◌∙◌, arith}
 use Rattle.vdisk.specs.Disk.{Only}
-use Rattle.vdisk.specs.Past.{Leaves}
+use Rattle.vdisk.specs.Past.{LeftByCrash}
 use Rattle.vdisk.specs.declared.record.Change.TheVariants.{Synced}
 use Rattle.vdisk.specs.declared.record.Event.{Event}
 use Rattle.vdisk.proofs.Past.{ends_pushed, ends_same, durable_synced, synced_now, newest, pushed}
@@ -79,13 +79,13 @@ returns-in-Ok c =
     let e : Event = record { stamp = m.moment; change = Synced } in
     let s = c.in-Ok.ensures in
     let goes = pushed m.moment x old new e x s.ok refl refl in
-    let durable : Only x (Leaves x (reverse new)) =
-    subst (λ (es : List Event). Only x (Leaves x es)) (sym (newest old new e s.ok))
+    let durable : Only x (LeftByCrash x (reverse new)) =
+    subst (λ (es : List Event). Only x (LeftByCrash x es)) (sym (newest old new e s.ok))
     (durable_synced x m.moment (reverse old)) in
     record {
       durable = durable;
       image = refl;
-      crash = λ d left. subst (λ (l : List ℕ). Leaves x (reverse old) l) (sym (durable d left))
+      crash = λ d left. subst (λ (l : List ℕ). LeftByCrash x (reverse old) l) (sym (durable d left))
           (record { size = refl; clean = λ i out. refl });
       time = record {
         adds = record { later = omega arith; since = goes.since };

@@ -8,6 +8,8 @@ use Rattle.volume_core.proofs.Causes.{failed_rose_too}
 use Rattle.volume_core.proofs.Wanting.{create_may, create_not_failed}
 use Rattle.volume_core.proofs.Adding.{changes_add}
 use Rattle.volume_core.proofs.Moving.{changes_move}
+use Rattle.volume_core.proofs.Unlost.{create_undamaged}
+use Rattle.volume_core.proofs.Waiting.{create_waits}
 use Rattle.volume_core.proofs.Told.{want_told, replied_told_too}
 use Rattle.volume_core.proofs.volume.Volume.create.Goals as goal
 
@@ -36,5 +38,9 @@ returns-clause-reply g c =
 pub returns-clause-moves : goal.returns-clause-moves
 returns-clause-moves g c =
     let s = c.create.ensures in
-    changes_move c.args.self.now.tables c.create.new.tables (Create c.args.name.now) c.create.result refl s.inside
-    s.err_inside s.endures s.stops s.spares
+    let t = c.args.self.now.tables in
+    let name = c.args.name.now in
+    changes_move t c.create.new.tables (Create name) c.create.result refl s.inside s.err_inside
+    (create_waits c.args.self.now c.create.new.tables c.create.result name s.pending)
+    (λ place. create_undamaged (view_now t) name (disk_of t).faults (disk_of c.create.new.tables).faults c.create.result
+    place (wanting t (create_needs name)) (create_may t name) s.reply) s.endures s.stops s.spares

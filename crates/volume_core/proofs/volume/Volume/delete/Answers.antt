@@ -1,4 +1,4 @@
-use Rattle.std.proofs.Common.{refl, arith}
+use Rattle.std.proofs.Common.{refl, arith, inl}
 use Rattle.plain_volume.specs.Replies.{done_reply}
 use Rattle.plain_volume.specs.declared.call.Call.TheVariants.{Delete}
 use Rattle.volume_tables.specs.Tables.{disk_of, view_now}
@@ -8,6 +8,8 @@ use Rattle.volume_core.proofs.Causes.{failed_rose}
 use Rattle.volume_core.proofs.Wanting.{delete_may, delete_not_failed}
 use Rattle.volume_core.proofs.Adding.{changes_add}
 use Rattle.volume_core.proofs.Moving.{changes_move}
+use Rattle.volume_core.proofs.Unlost.{delete_undamaged}
+use Rattle.volume_core.proofs.Waiting.{delete_waits}
 use Rattle.volume_core.proofs.Told.{want_told, replied_told}
 use Rattle.volume_core.proofs.volume.Volume.delete.Goals as goal
 
@@ -36,5 +38,9 @@ returns-clause-reply g c =
 pub returns-clause-moves : goal.returns-clause-moves
 returns-clause-moves g c =
     let s = c.delete.ensures in
-    changes_move c.args.self.now.tables c.delete.new.tables (Delete c.args.name.now) c.delete.result refl s.inside
-    s.err_inside s.endures s.stops s.spares
+    let t = c.args.self.now.tables in
+    let name = c.args.name.now in
+    changes_move t c.delete.new.tables (Delete name) c.delete.result refl s.inside s.err_inside
+    (delete_waits c.args.self.now c.delete.new.tables c.delete.result name s.pending)
+    (λ place. delete_undamaged (view_now t) name (disk_of t).faults (disk_of c.delete.new.tables).faults c.delete.result
+    place (wanting t (delete_needs name)) (delete_may t name) (inl s.reply)) s.endures s.stops s.spares

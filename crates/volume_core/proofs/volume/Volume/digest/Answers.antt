@@ -41,8 +41,8 @@ returns-in_err-file-clause-endures g c = endures_start g.met.D.Disk.same_self c.
 
 pub returns-clause-moves : goal.returns-clause-moves
 returns-clause-moves g c =
-    reads_move c.args.self.now.tables c.hash_file.new.tables (Digest c.args.name.now) _ refl c.hash_file.ensures.reads
+    reads_move c.args.self.now.tables c.hash_file.new.tables (Digest c.args.name.now) _ refl refl c.hash_file.ensures.reads
 
 pub returns-in_err-file-clause-moves : goal.returns-in_err-file-clause-moves
 returns-in_err-file-clause-moves g c =
-    stays_move c.args.self.now.tables (Digest c.args.name.now) _ refl
+    stays_move c.args.self.now.tables (Digest c.args.name.now) _ refl refl

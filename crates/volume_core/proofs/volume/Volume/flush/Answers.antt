@@ -4,21 +4,23 @@ use Rattle.cluster_space.specs.declared.state.State.{State}
 use Rattle.cluster_space.specs.States.{free_in, deferred_in}
 use Rattle.volume_inside.specs.Shows.{Area, Kept}
 use Rattle.volume_inside.specs.View.{view}
-use Rattle.volume_tables.specs.Tables.{tables_now, inside_now, states_of, stopped, disk_of, view_now, area_of}
+use Rattle.volume_tables.specs.Tables.{inside_now, states_of, stopped, disk_of, view_now, area_of}
 use Rattle.volume_tables.specs.Tables.{would_wear, GoesOn}
 use Rattle.volume_tables.proofs.Freed.{both_ok}
-use Rattle.volume_tables.proofs.Roomed.{unless_stopped, released_counts}
+use Rattle.volume_tables.proofs.Roomed.{unless_stopped, released_counts, commit_epoch, commit_tires, commit_stands}
 use Rattle.volume_tables.proofs.Endured.{endures_room}
-use Rattle.volume_tables.proofs.Spared.{rises, spares_commit}
-use Rattle.volume_core.proofs.Flushed.{flush_leaves, flush_reply, flush_stops, flush_want, kept_now, sound_still}
+use Rattle.volume_tables.proofs.Spared.{spares_commit}
+use Rattle.volume_tables.specs.Pending.{due_in}
+use Rattle.volume_core.proofs.Flushed.{flush_leaves, flush_reply, flush_stops, flush_undamaged, flush_want, kept_now}
+use Rattle.volume_core.proofs.Flushed.{ok_known, err_known, sound_still}
 use Rattle.plain_volume.specs.declared.call.Call.TheVariants.{Flush}
 use Rattle.volume_tables.proofs.Leaving.{area_same}
 use Rattle.plain_volume.specs.Replies.{done_reply}
 use Rattle.volume_core.proofs.Adding.{commit_adds}
-use Rattle.volume_core.proofs.Moving.{moves, after_none}
-use Rattle.volume_core.proofs.Counted.{none_deferred}
-use Rattle.volume_core.proofs.Settled.{ok_all, settled}
-use Rattle.volume_core.proofs.Stored.{stored_state}
+use Rattle.volume_core.proofs.Moving.{moves, told_done, after_none}
+use Rattle.volume_core.proofs.Settled.{ok_all}
+use Rattle.volume_core.proofs.Waiting.{commit_waits}
+use Rattle.volume_core.proofs.Stored.{committed_state}
 use Rattle.volume_core.proofs.volume.Volume.flush.Goals as goal
 
 pub invariant_of-self : goal.invariant_of-self
@@ -55,12 +57,19 @@ returns-clause-endures g c =
       s.still_stored stored is worn,
       subst (λ (x : g.row.D.Denot). Kept (area_of t) (g.D.Disk.state x) w) (sym (s.unspent worn).0) kept,
     )))
-    s.later s.same (rises c.commit.result _ _ _ s.spends s.same_epoch) s.epoch s.tires
+    s.later s.same
+    (commit_stands t u c.commit.result s.refused (λ f. (s.failed f).1) s.pending s.tired s.worn.0 s.same_epoch)
+    (commit_epoch t u c.commit.result s.refused (λ f. (s.failed f).1) s.pending s.tired s.worn.0)
+    (commit_tires t u c.commit.result s.refused (λ f. (s.failed f).1) s.pending s.tired s.worn.0)
 
 pub returns-clause-adds : goal.returns-clause-adds
 returns-clause-adds g c =
+    let t = c.args.self.now.tables in
+    let u = c.commit.new.self in
     let s = c.commit.ensures in
-    commit_adds _ _ Flush refl s.now s.epoch s.tires
+    commit_adds _ _ Flush refl s.now
+    (commit_epoch t u c.commit.result s.refused (λ f. (s.failed f).1) s.pending s.tired s.worn.0)
+    (commit_tires t u c.commit.result s.refused (λ f. (s.failed f).1) s.pending s.tired s.worn.0)
 
 pub returns-clause-reply : goal.returns-clause-reply
 returns-clause-reply g c =
@@ -81,11 +90,20 @@ pub returns-clause-moves : goal.returns-clause-moves
 returns-clause-moves g c =
     let t = c.args.self.now.tables in
     let s = c.commit.ensures in
-    moves t c.commit.new.self Flush c.commit.result refl
+    let u = c.commit.new.self in
+    let waits = commit_waits c.args.self.now u c.commit.result c.requires.running s.pending s.tired in
+    moves t u Flush c.commit.result refl
+    (told_done Flush t u s.clusters c.commit.result (ok_known c.commit.result (inside_now u ≡ inside_now t) s.inside)
+    (err_known c.commit.result (inside_now u ≡ inside_now t) s.inside) waits.done waits.worn
+    (flush_undamaged c.commit.result s.refused)
+    (spares_commit t u c.commit.result s.refused s.same_epoch))
     (s.inside ∙ sym (after_none Flush (done_reply c.commit.result) (inside_now t) refl)) s.clusters
-    (λ is. ap done_reply (flush_stops (stopped c.commit.new.self) c.commit.result s.runs s.refused s.still_runs is))
-    (spares_commit t c.commit.new.self c.commit.result s.refused s.same_epoch)
-    (rises c.commit.result _ _ _ s.spends s.same_epoch) s.epoch
+    (λ is. ap done_reply (flush_stops (stopped u) c.commit.result s.runs s.refused s.still_runs is))
+    (commit_stands t u c.commit.result s.refused (λ f. (s.failed f).1) s.pending s.tired s.worn.0 s.same_epoch)
+    (commit_epoch t u c.commit.result s.refused (λ f. (s.failed f).1) s.pending s.tired s.worn.0)
+
+pub returns-clause-nothing_due : goal.returns-clause-nothing_due
+returns-clause-nothing_due g c = on_ok_weaker c.commit.result (λ is. ap due_in is) c.commit.ensures.pending
 
 pub returns-clause-halts : goal.returns-clause-halts
 returns-clause-halts g c failed = (c.commit.ensures.failed failed).1
@@ -95,12 +113,7 @@ returns-clause-stored g c w kept =
     let t = c.args.self.now.tables in
     let u = c.commit.new.self in
     let s = c.commit.ensures in
-    ok_all c.commit.result _ _ _ _ _ _ _
-    (λ is shows freed fresh due runs. stored_state u (tables_now t) (view_now t) is s.now
-    (subst (λ (a : Area). Kept a (disk_of u) (view_now t)) (sym (area_same t u s.clusters)) shows)
-    (settled u
-    (sound_still t u c.args.self.now.sound s.clusters s.now
-    (λ still. released_counts (states_of t) (states_of u) freed) (λ still. c.requires.running))
-    runs fresh due (ap (λ (xs : List State). deferred_in xs) freed ∙ none_deferred (states_of t))))
-    (s.tables kept.stored kept.tables) (s.kept kept.stored w kept.tables kept.kept) s.freed s.fresh s.nothing_due
-    s.runs
+    ok_all c.commit.result _ _ _ _
+    (λ is shows waits. committed_state t u (view_now t) c.args.self.now.sound c.requires.running s.clusters s.now is
+    (subst (λ (a : Area). Kept a (disk_of u) (view_now t)) (sym (area_same t u s.clusters)) shows) waits)
+    (s.tables kept.stored kept.tables) (s.kept kept.stored w kept.tables kept.kept) s.pending

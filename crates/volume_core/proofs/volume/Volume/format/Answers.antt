@@ -11,9 +11,9 @@ returns-in-Ok-clause-now g c = shows_no_file c.in-Ok.fresh c.in-Ok.ensures.now
 pub returns-in-Ok-clause-fresh : goal.returns-in-Ok-clause-fresh
 returns-in-Ok-clause-fresh g c =
     let s = c.in-Ok.ensures in
-    fresh_spent _ s.now s.fresh s.epoch
+    fresh_spent _ s.now s.fresh s.first
 
 pub returns-in-Ok-clause-state : goal.returns-in-Ok-clause-state
 returns-in-Ok-clause-state g c =
     let s = c.in-Ok.ensures in
-    fresh_state c.in-Ok.fresh s.rules s.space s.runs s.fresh s.due c.args.clusters s.clusters s.now s.first
+    fresh_state c.in-Ok.fresh s.rules s.space s.runs s.fresh s.due c.args.clusters s.clusters s.now s.first s.next

@@ -50,14 +50,14 @@ returns-in_err-file-clause-endures g c = endures_start g.met.D.Disk.same_self c.
 pub returns-clause-moves : goal.returns-clause-moves
 returns-clause-moves g c =
     reads_move c.args.self.now.tables c.read_plain.new.tables
-    (Read c.args.name.now c.args.at (length c.args.out.now)) _ refl c.read_plain.ensures.reads
+    (Read c.args.name.now c.args.at (length c.args.out.now)) _ refl refl c.read_plain.ensures.reads
 
 pub returns-in_err-file-clause-moves : goal.returns-in_err-file-clause-moves
 returns-in_err-file-clause-moves g c =
     let call = Read c.args.name.now c.args.at (length c.args.out.now) in
-    stays_move c.args.self.now.tables call _ refl
+    stays_move c.args.self.now.tables call _ refl refl
 
 pub returns-then-at-record-clause-moves : goal.returns-then-at-record-clause-moves
 returns-then-at-record-clause-moves g c =
     let call = Read c.args.name.now c.args.at (length c.args.out.now) in
-    stays_move c.args.self.now.tables call _ refl
+    stays_move c.args.self.now.tables call _ refl refl

@@ -8,6 +8,8 @@ use Rattle.volume_core.proofs.Causes.{failed_rose_too}
 use Rattle.volume_core.proofs.Wanting.{rename_may, rename_not_failed}
 use Rattle.volume_core.proofs.Adding.{changes_add}
 use Rattle.volume_core.proofs.Moving.{changes_move}
+use Rattle.volume_core.proofs.Unfound.{rename_waits_by}
+use Rattle.volume_core.proofs.Unlost.{rename_undamaged}
 use Rattle.volume_core.proofs.Told.{want_told, replied_told_too}
 use Rattle.volume_core.proofs.volume.Volume.rename.Goals as goal
 
@@ -36,5 +38,11 @@ returns-clause-reply g c =
 pub returns-clause-moves : goal.returns-clause-moves
 returns-clause-moves g c =
     let s = c.rename.ensures in
-    changes_move c.args.self.now.tables c.rename.new.tables (Rename c.args.from.now c.args.to.now)
-    c.rename.result refl s.inside s.err_inside s.endures s.stops s.spares
+    let t = c.args.self.now.tables in
+    let from = c.args.from.now in
+    let to = c.args.to.now in
+    changes_move t c.rename.new.tables (Rename from to) c.rename.result refl s.inside s.err_inside
+    (rename_waits_by c.args.self.now c.rename.new.tables c.rename.result from to (wanting t (rename_needs from to))
+    (disk_of t).faults (disk_of c.rename.new.tables).faults s.reply s.pending)
+    (λ place. rename_undamaged (view_now t) from (disk_of t).faults (disk_of c.rename.new.tables).faults c.rename.result
+    place to (wanting t (rename_needs from to)) (rename_may t from to) s.reply) s.endures s.stops s.spares

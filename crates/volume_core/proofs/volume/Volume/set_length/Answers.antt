@@ -1,4 +1,4 @@
-use Rattle.std.proofs.Common.{refl, arith}
+use Rattle.std.proofs.Common.{refl, arith, inl}
 use Rattle.plain_volume.specs.Replies.{done_reply}
 use Rattle.plain_volume.specs.declared.call.Call.TheVariants.{SetLength}
 use Rattle.volume_tables.specs.Tables.{disk_of, view_now}
@@ -7,6 +7,8 @@ use Rattle.volume_core.proofs.Causes.{failed_rose}
 use Rattle.volume_core.proofs.Wanting.{length_may, length_not_failed}
 use Rattle.volume_core.proofs.Adding.{changes_add}
 use Rattle.volume_core.proofs.Moving.{changes_move}
+use Rattle.volume_core.proofs.Unfound.{length_waits_by}
+use Rattle.volume_core.proofs.Unlost.{length_undamaged}
 use Rattle.volume_core.proofs.Told.{want_told, replied_told}
 use Rattle.volume_core.proofs.volume.Volume.set_length.Goals as goal
 
@@ -35,5 +37,12 @@ returns-clause-reply g c =
 pub returns-clause-moves : goal.returns-clause-moves
 returns-clause-moves g c =
     let s = c.set_length.ensures in
-    changes_move c.args.self.now.tables c.set_length.new.tables (SetLength c.args.name.now c.args.length)
-    c.set_length.result refl s.inside s.err_inside s.endures s.stops s.spares
+    let t = c.args.self.now.tables in
+    let u = c.set_length.new.tables in
+    let name = c.args.name.now in
+    let len = c.args.length in
+    changes_move t u (SetLength name len) c.set_length.result refl s.inside s.err_inside
+    (length_waits_by c.args.self.now u c.set_length.result name len (length_wants t name len) (disk_of t).faults
+    (disk_of u).faults (inl s.reply) s.pending)
+    (λ place. length_undamaged (view_now t) name (disk_of t).faults (disk_of u).faults c.set_length.result place len
+    (length_wants t name len) (length_may t name len) (inl s.reply)) s.endures s.stops s.spares

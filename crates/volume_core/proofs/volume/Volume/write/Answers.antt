@@ -1,20 +1,28 @@
-use Rattle.std.proofs.Common.{rules, ◌≡◌, ◌∙◌, length, Result, Err, refl, sym, ap, subst, arith, inl, inr, ⊎_elim}
+use Rattle.std.proofs.Common.{rules, ◌≡◌, ◌∙◌, ℕ, List, not, length, Option, Result, Err, refl, sym, ap, subst, arith, inl, inr, ⊎_elim}
 use Rattle.std.proofs.lemmas.Result.{on_ok_weaker}
 use Rattle.plain_volume.specs.Step.{plain, write}
 use Rattle.plain_volume.specs.Replies.{done_reply}
 use Rattle.plain_volume.specs.declared.call.Call.TheVariants.{Write}
 use Rattle.plain_volume.specs.declared.call.Fault.{Fault}
+use Rattle.plain_volume.specs.declared.call.Fault.TheVariants.{BadName}
+use Rattle.plain_volume.specs.Volume.{cells_of, is_lawful}
 use Rattle.volume_tables.specs.Tables.{disk_of, inside_now, view_now}
 use Rattle.volume_tables.specs.Wants.{IsRepliedOrMemory}
 use Rattle.volume_tables.proofs.Endured.{endures_start}
 use Rattle.volume_core.specs.Wants.{wants_of}
 use Rattle.volume_core.proofs.Told.{want_told, replied_told_too, reads_told}
-use Rattle.volume_core.specs.Moves.{inside_after}
+use Rattle.volume_core.specs.Moves.{inside_after, state_after}
+use Rattle.volume_core.specs.States.{state_of}
+use Rattle.volume_inside.specs.View.{file_cells}
+use Rattle.volume_files.specs.Writing.{write_wants}
 use Rattle.volume_core.proofs.Causes.{refused_not_failed}
-use Rattle.volume_core.proofs.Wanting.{write_may}
+use Rattle.volume_core.proofs.Wanting.{write_may, write_id_may}
 use Rattle.volume_core.proofs.Written.{unfound_replied, write_replied, write_left}
 use Rattle.volume_core.proofs.Adding.{nothing_adds, changes_add}
-use Rattle.volume_core.proofs.Moving.{changes_move, still_moves, written_of}
+use Rattle.volume_core.proofs.Moving.{changes_move, still_moves, unfound_leaves, written_of}
+use Rattle.volume_core.proofs.Answered.{file_is_whole}
+use Rattle.volume_core.proofs.Unlost.{write_undamaged, write_unworn}
+use Rattle.volume_core.proofs.Waiting.{write_waits_by}
 use Rattle.volume_core.proofs.volume.Volume.write.Goals as goal
 
 pub returns-in_err-file-clause-failed : goal.returns-in_err-file-clause-failed
@@ -76,12 +84,26 @@ returns-in_err-file-clause-endures g c = endures_start g.met.D.Disk.same_self c.
 pub returns-clause-moves : goal.returns-clause-moves
 returns-clause-moves g c w kept =
     let t = c.args.self.now.tables in
+    let u = c.write_plain.new.tables in
     let s = c.write_plain.ensures in
+    let name = c.args.name.now in
+    let at = c.args.at in
+    let bytes = c.args.bytes.now in
+    let id = c.in_ok-file.file in
     let found = c.in_ok-file.ensures.found in
-    changes_move c.args.self.now.tables c.write_plain.new.tables (Write c.args.name.now c.args.at c.args.bytes.now)
-    c.write_plain.result refl
-    (on_ok_weaker c.write_plain.result (λ is. is ∙ written_of c.args.name.now c.in_ok-file.file c.args.at
-    c.args.bytes.now (inside_now t) found.named) (s.inside w kept)) s.err_inside s.endures s.stops s.spares
+    let cells = file_cells (inside_now t) id in
+    let whole = file_is_whole t c.args.self.now.sound name id c.in_ok-file._record found in
+    changes_move t u (Write name at bytes) c.write_plain.result refl
+    (on_ok_weaker c.write_plain.result (λ is. is ∙ written_of name id at bytes (inside_now t) found.named)
+    (s.inside w kept)) s.err_inside
+    (write_waits_by c.args.self.now u c.write_plain.result name id at bytes found.named s.pending
+    (λ none. write_unworn (view_now t) name at bytes cells (disk_of t).faults (disk_of u).faults c.write_plain.result whole
+    (subst (λ (o : Option Fault). IsRepliedOrMemory (write name at bytes (view_now t) cells) o (disk_of t).faults
+    (disk_of u).faults (done_reply c.write_plain.result)) (ap (λ (bs : List ℕ). write_wants t id at bs) none)
+    (s.reply name (view_now t)))))
+    (λ place. write_undamaged (view_now t) name (disk_of t).faults (disk_of u).faults c.write_plain.result place
+    (Write name at bytes) at bytes cells (write_wants t id at bytes) whole (write_id_may t name at bytes id)
+    (s.reply name (view_now t))) s.endures s.stops s.spares
 
 pub returns-clause-halts : goal.returns-clause-halts
 returns-clause-halts g c failed =
@@ -103,5 +125,10 @@ returns-in_err-file-clause-moves g c w kept =
     let name = c.args.name.now in
     let refused : c.from_residual.result ≡ Err c.in_err-file.field-0.0 = search rules in
     still_moves c.args.self.now.tables (Write name c.args.at c.args.bytes.now) (done_reply c.from_residual.result)
+    (ap (λ (r : Result (Unit {0}) Fault). state_after (Write name c.args.at c.args.bytes.now) (done_reply r)
+    (state_of c.args.self.now)) refused
+    ∙ unfound_leaves (Write name c.args.at c.args.bytes.now) (state_of c.args.self.now)
+    (cells_of name (view_now c.args.self.now.tables)) (not (is_lawful name)) c.in_err-file.field-0.0
+    (c.in_err-file.ensures.refused (λ cells. Err BadName)))
     (ap (λ (r : Result (Unit {0}) Fault). inside_after (Write name c.args.at c.args.bytes.now) (done_reply r)
     (inside_now c.args.self.now.tables)) refused)

@@ -13,8 +13,9 @@ use Rattle.volume_tables.specs.Log.{log_now}
 use Rattle.volume_tables.proofs.WellFormed.{apart}
 use Rattle.volume_tables.proofs.Puts.{extents_dropped}
 use Rattle.volume_tables.proofs.Ready.{extents_ready}
+use Rattle.volume_tables.proofs.RangeEnds.{end_exact}
 use Rattle.volume_tables.proofs.Sizes.{extent_key, end_size}
-use Rattle.volume_tables.proofs.Setting.{drop_contents, drop_checkpoint, drop_now}
+use Rattle.volume_tables.proofs.Setting.{drop_contents, drop_checkpoint, drop_now, drop_image}
 use Rattle.volume_tables.proofs.Leaving.{IsNoFreer}
 use Rattle.volume_tables.proofs.Deferring.{held_used_once, held_dropped, all_no_freer, all_length, drop_leaves}
 use Rattle.volume_tables.proofs.Counts.{drop_named}
@@ -31,8 +32,8 @@ defer_range-requires-clause-used g c =
     (held_used_once t.clusters t.space (typed_of (log_now t.log)) t.held t.spaces
     (λ k. is_in_range pair_cmp c.args.from c.args.to k))
 
-pub drop_range-requires-clause-room : goal.drop_range-requires-clause-room
-drop_range-requires-clause-room g c b w key ends =
+pub drop_range-requires : goal.drop_range-requires
+drop_range-requires g c b w key ends =
     let low = extent_key b c.args.from key in
     let high = end_size extent_codec 13 extent_key (omega arith) c.args.to w ends in
     omega (arith, low, high, c.requires)
@@ -70,40 +71,36 @@ invariant_of-self-clause-few g c running worn =
     let high = end_size extent_codec 13 extent_key (omega arith) c.args.to p.dropped.high p.dropped.ends in
     omega (arith, low, high, p.taken, c.requires)
 
-pub returns-clause-tables : goal.returns-clause-tables
-returns-clause-tables g c =
-    let t = c.args.self.now in
-    drop_now extent_codec t c.drop_range.new.log c.args.from c.args.to c.drop_range.ensures
-    (keep_extents (λ k. not (is_in_range pair_cmp c.args.from c.args.to k))) (λ x. refl)
-    (extents_dropped (log_now t.log) (log_now c.drop_range.new.log) c.args.from c.args.to c.drop_range.ensures.dropped)
-
-pub returns-clause-checkpoint : goal.returns-clause-checkpoint
-returns-clause-checkpoint g c =
-    drop_checkpoint extent_codec c.args.self.now c.drop_range.new.log c.args.from c.args.to c.drop_range.ensures
-
-pub returns-clause-staged : goal.returns-clause-staged
-returns-clause-staged g c =
-    let p = c.drop_range.ensures in
-    let low = extent_key p.dropped.low c.args.from p.dropped.begins in
-    let high = end_size extent_codec 13 extent_key (omega arith) c.args.to p.dropped.high p.dropped.ends in
-    omega (arith, low, high, p.taken)
-
-pub returns-clause-leaves : goal.returns-clause-leaves
-returns-clause-leaves g c =
-    let t = c.args.self.now in
-    drop_leaves t _ c.drop_range.ensures.quiet refl
-    (subst (λ (xs : List State). IsNoFreer t.space xs) (sym c.defer_range.ensures)
-    (all_no_freer c.first_cluster-first.result
-    (extents_in c.args.from c.args.to (typed_of (log_now t.log)).extents) t.space))
-    refl (g.met.D.Disk.same_self t.log.disk)
-
-pub returns-clause-states : goal.returns-clause-states
-returns-clause-states g c =
-    let t = c.args.self.now in
-    c.defer_range.ensures ∙ ap (λ (n : ℕ).
-    all_deferred n (extents_in c.args.from c.args.to (typed_of (log_now t.log)).extents) t.space)
-    c.first_cluster-first.ensures.is
-
 pub invariant_of-self-clause-named : goal.invariant_of-self-clause-named
 invariant_of-self-clause-named g c = drop_named c.args.self.now c.drop_range.new.log extent_codec
     (apart 4 2 refl) c.args.from c.args.to c.drop_range.ensures
+
+pub returns : goal.returns
+returns g c = record {
+  tables =
+      let t = c.args.self.now in
+      drop_now extent_codec t c.drop_range.new.log c.args.from c.args.to c.drop_range.ensures
+      (keep_extents (λ k. not (is_in_range pair_cmp c.args.from c.args.to k))) (λ x. refl)
+      (extents_dropped (log_now t.log) (log_now c.drop_range.new.log) c.args.from c.args.to c.drop_range.ensures.dropped);
+  checkpoint =
+      drop_checkpoint extent_codec c.args.self.now c.drop_range.new.log c.args.from c.args.to c.drop_range.ensures;
+  staged =
+      let p = c.drop_range.ensures in
+      let low = extent_key p.dropped.low c.args.from p.dropped.begins in
+      let high = end_exact extent_codec 13 extent_key c.args.to p.dropped.high p.dropped.ends in
+      omega (arith, low, high, p.taken);
+  leaves =
+      let t = c.args.self.now in
+      drop_leaves t _ c.drop_range.ensures.quiet refl
+      (subst (λ (xs : List State). IsNoFreer t.space xs) (sym c.defer_range.ensures)
+      (all_no_freer c.first_cluster-first.result
+      (extents_in c.args.from c.args.to (typed_of (log_now t.log)).extents) t.space))
+      refl refl (g.met.D.Disk.same_self t.log.disk);
+  states =
+      let t = c.args.self.now in
+      c.defer_range.ensures ∙ ap (λ (n : ℕ).
+      all_deferred n (extents_in c.args.from c.args.to (typed_of (log_now t.log)).extents) t.space)
+      c.first_cluster-first.ensures.is;
+  image = drop_image c.args.self.now c.drop_range.new.log c.drop_range.ensures.quiet;
+  running = c.drop_range.ensures.quiet.running;
+}

@@ -9,14 +9,15 @@ use Rattle.volume_tables.specs.Clusters.{AreHeld}
 use Rattle.volume_tables.specs.Log.{log_now}
 use Rattle.volume_tables.proofs.WellFormed.{apart}
 use Rattle.volume_tables.proofs.Puts.{files_dropped}
+use Rattle.volume_tables.proofs.RangeEnds.{end_exact}
 use Rattle.volume_tables.proofs.Sizes.{file_key, end_size}
 use Rattle.volume_tables.proofs.Held.{held_same}
-use Rattle.volume_tables.proofs.Setting.{quiet_leaves, drop_contents, drop_checkpoint, drop_now}
+use Rattle.volume_tables.proofs.Setting.{quiet_leaves, drop_contents, drop_checkpoint, drop_now, drop_image}
 use Rattle.volume_tables.proofs.Counts.{drop_named}
 use Rattle.volume_tables.proofs.tables.Tables.drop_file.Goals as goal
 
-pub drop_range-requires-clause-room : goal.drop_range-requires-clause-room
-drop_range-requires-clause-room g c b w key ends =
+pub drop_range-requires : goal.drop_range-requires
+drop_range-requires g c b w key ends =
     let low = file_key b c.args.from key in
     let high = end_size file_codec 9 file_key (omega arith) c.args.to w ends in
     omega (arith, low, high, c.requires)
@@ -42,29 +43,28 @@ invariant_of-self-clause-few g c running worn =
     let high = end_size file_codec 9 file_key (omega arith) c.args.to p.dropped.high p.dropped.ends in
     omega (arith, low, high, p.taken, c.requires)
 
-pub returns-clause-tables : goal.returns-clause-tables
-returns-clause-tables g c =
-    let t = c.args.self.now in
-    drop_now file_codec t c.drop_range.new.log c.args.from c.args.to c.drop_range.ensures
-    (keep_files (λ k. not (is_in_range nat_cmp c.args.from c.args.to k))) (λ x. refl)
-    (files_dropped (log_now t.log) (log_now c.drop_range.new.log) c.args.from c.args.to c.drop_range.ensures.dropped)
-
-pub returns-clause-checkpoint : goal.returns-clause-checkpoint
-returns-clause-checkpoint g c =
-    drop_checkpoint file_codec c.args.self.now c.drop_range.new.log c.args.from c.args.to c.drop_range.ensures
-
-pub returns-clause-staged : goal.returns-clause-staged
-returns-clause-staged g c =
-    let p = c.drop_range.ensures in
-    let low = file_key p.dropped.low c.args.from p.dropped.begins in
-    let high = end_size file_codec 9 file_key (omega arith) c.args.to p.dropped.high p.dropped.ends in
-    omega (arith, low, high, p.taken)
-
-pub returns-clause-leaves : goal.returns-clause-leaves
-returns-clause-leaves g c =
-    quiet_leaves c.args.self.now _ c.drop_range.ensures.quiet refl refl refl
-    (g.met.D.Disk.same_self c.args.self.now.log.disk)
-
 pub invariant_of-self-clause-named : goal.invariant_of-self-clause-named
 invariant_of-self-clause-named g c = drop_named c.args.self.now c.drop_range.new.log file_codec
     (apart 3 2 refl) c.args.from c.args.to c.drop_range.ensures
+
+pub returns : goal.returns
+returns g c = record {
+  tables =
+      let t = c.args.self.now in
+      drop_now file_codec t c.drop_range.new.log c.args.from c.args.to c.drop_range.ensures
+      (keep_files (λ k. not (is_in_range nat_cmp c.args.from c.args.to k))) (λ x. refl)
+      (files_dropped (log_now t.log) (log_now c.drop_range.new.log) c.args.from c.args.to c.drop_range.ensures.dropped);
+  checkpoint =
+      drop_checkpoint file_codec c.args.self.now c.drop_range.new.log c.args.from c.args.to c.drop_range.ensures;
+  staged =
+      let p = c.drop_range.ensures in
+      let low = file_key p.dropped.low c.args.from p.dropped.begins in
+      let high = end_exact file_codec 9 file_key c.args.to p.dropped.high p.dropped.ends in
+      omega (arith, low, high, p.taken);
+  leaves =
+      quiet_leaves c.args.self.now _ c.drop_range.ensures.quiet refl refl refl refl
+      (g.met.D.Disk.same_self c.args.self.now.log.disk);
+  states = refl;
+  image = drop_image c.args.self.now c.drop_range.new.log c.drop_range.ensures.quiet;
+  running = c.drop_range.ensures.quiet.running;
+}

@@ -10,9 +10,10 @@ use Rattle.volume_tables.specs.Clusters.{AreHeld}
 use Rattle.volume_tables.specs.Log.{log_now}
 use Rattle.volume_tables.proofs.WellFormed.{apart}
 use Rattle.volume_tables.proofs.Puts.{names_dropped}
+use Rattle.volume_tables.proofs.RangeEnds.{name_end_exact}
 use Rattle.volume_tables.proofs.Sizes.{name_key, name_end}
 use Rattle.volume_tables.proofs.Held.{held_same}
-use Rattle.volume_tables.proofs.Setting.{quiet_leaves, drop_contents, drop_checkpoint, drop_now}
+use Rattle.volume_tables.proofs.Setting.{quiet_leaves, drop_contents, drop_checkpoint, drop_now, drop_image}
 use Rattle.volume_tables.proofs.Counts.{told_names, names_others}
 use Rattle.volume_tables.proofs.tables.Tables.drop_name.Goals as goal
 
@@ -39,32 +40,6 @@ invariant_of-self-clause-few g c running worn =
     let high = name_end c.args.to p.dropped.high c.requires.short_end p.dropped.ends in
     omega (arith, low, high, p.taken, c.requires.room)
 
-pub returns-clause-tables : goal.returns-clause-tables
-returns-clause-tables g c =
-    let t = c.args.self.now in
-    let to = option_map (λ name. name.now) c.args.to in
-    drop_now name_codec t c.drop_name_range.new.log c.args.from.now to c.drop_name_range.ensures
-    (keep_names (λ k. not (is_in_range bytes_cmp c.args.from.now to k))) (λ x. refl)
-    (names_dropped (log_now t.log) (log_now c.drop_name_range.new.log) c.args.from.now to
-    c.drop_name_range.ensures.dropped)
-
-pub returns-clause-checkpoint : goal.returns-clause-checkpoint
-returns-clause-checkpoint g c =
-    drop_checkpoint name_codec c.args.self.now c.drop_name_range.new.log c.args.from.now
-    (option_map (λ name. name.now) c.args.to) c.drop_name_range.ensures
-
-pub returns-clause-staged : goal.returns-clause-staged
-returns-clause-staged g c =
-    let p = c.drop_name_range.ensures in
-    let low = name_key p.dropped.low c.args.from.now p.dropped.begins in
-    let high = name_end c.args.to p.dropped.high c.requires.short_end p.dropped.ends in
-    omega (arith, low, high, p.taken)
-
-pub returns-clause-leaves : goal.returns-clause-leaves
-returns-clause-leaves g c =
-    quiet_leaves c.args.self.now _ c.drop_name_range.ensures.quiet refl refl refl
-    (g.met.D.Disk.same_self c.args.self.now.log.disk)
-
 pub overflow_sub-self : goal.overflow_sub-self
 overflow_sub-self g c =
     let t = c.args.self.now in
@@ -86,3 +61,28 @@ invariant_of-self-clause-named g c =
     (told_names t log c.other_pairs-others.result c.count.result after.spelled
     (names_others t log c.args.from.now to c.drop_name_range.ensures)
     c.other_pairs-others.ensures (c.count.ensures.count ∙ ap (λ (m : Map). length m) c.pairs.ensures)).1
+
+pub returns : goal.returns
+returns g c = record {
+  tables =
+      let t = c.args.self.now in
+      let to = option_map (λ name. name.now) c.args.to in
+      drop_now name_codec t c.drop_name_range.new.log c.args.from.now to c.drop_name_range.ensures
+      (keep_names (λ k. not (is_in_range bytes_cmp c.args.from.now to k))) (λ x. refl)
+      (names_dropped (log_now t.log) (log_now c.drop_name_range.new.log) c.args.from.now to
+      c.drop_name_range.ensures.dropped);
+  checkpoint =
+      drop_checkpoint name_codec c.args.self.now c.drop_name_range.new.log c.args.from.now
+      (option_map (λ name. name.now) c.args.to) c.drop_name_range.ensures;
+  staged =
+      let p = c.drop_name_range.ensures in
+      let low = name_key p.dropped.low c.args.from.now p.dropped.begins in
+      let high = name_end_exact (option_map (λ name. name.now) c.args.to) p.dropped.high p.dropped.ends in
+      omega (arith, low, high, p.taken);
+  leaves =
+      quiet_leaves c.args.self.now _ c.drop_name_range.ensures.quiet refl refl refl refl
+      (g.met.D.Disk.same_self c.args.self.now.log.disk);
+  states = refl;
+  image = drop_image c.args.self.now c.drop_name_range.new.log c.drop_name_range.ensures.quiet;
+  running = c.drop_name_range.ensures.quiet.running;
+}

@@ -3,7 +3,8 @@ use Rattle.std.proofs.lemmas.Result.{on_ok_weaker}
 use Rattle.cluster_space.specs.declared.state.State.{State}
 use Rattle.cluster_space.specs.States.{free_in, deferred_in}
 use Rattle.volume_inside.specs.Shows.{Kept}
-use Rattle.volume_tables.specs.Tables.{area_of, states_of, IsTables, GoesOn}
+use Rattle.volume_tables.specs.Tables.{area_of, states_of, staged_of, IsTables, GoesOn}
+use Rattle.volume_tables.specs.Pending.{Pending}
 use Rattle.volume_tables.proofs.Freed.{released_free, both_ok, worn_then}
 use Rattle.volume_tables.proofs.Roomed.{unless_stopped, stopped_by, released_counts}
 use Rattle.volume_tables.proofs.tables.Tables.ensure_room.Goals as goal
@@ -16,11 +17,12 @@ returns-clause-room g c =
     (λ both.
     (let free : free_in (states_of c.commit.new.self) ≡ free_in (states_of t) + deferred_in (states_of t) = ap
     (λ (xs : List State). free_in xs) both.0 ∙ released_free (states_of t) in
+    let none : staged_of c.commit.new.self ≡ 0 = ap (λ (p : Pending). p.staged) both.1 in
     record {
-      records_fit = omega (arith, both.1, c.requires.records);
+      records_fit = omega (arith, none, c.requires.records);
       clusters_fit = omega (arith, free, c.if-clusters-free.false, c.free_count.ensures, c.deferred_count.ensures);
     }))
-    (both_ok _ _ c.commit.result s.freed s.staged)
+    (both_ok _ _ c.commit.result s.freed s.pending)
 
 pub returns-clause-goes_on : goal.returns-clause-goes_on
 returns-clause-goes_on g c stored w is kept =
@@ -56,5 +58,5 @@ returns-clause-stops g c =
     let s = c.commit.ensures in
     stopped_by c.args.self.now c.commit.new.self c.commit.result s.refused (λ f. (s.failed f).1) s.runs s.still_runs
 
-pub returns-clause-spent : goal.returns-clause-spent
-returns-clause-spent g c stored is more = c.commit.ensures.spent stored is
+pub returns-clause-pending : goal.returns-clause-pending
+returns-clause-pending g c more = c.commit.ensures.pending

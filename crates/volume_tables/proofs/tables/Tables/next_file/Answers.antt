@@ -14,5 +14,5 @@ returns-in-Some g c =
 pub returns-in-None : goal.returns-in-None
 returns-in-None g c =
     let t = c.args.self.now in
-    c.first.ensures refl refl (files_ready t.contents)
+    c.first.ensures refl (files_ready t.contents)
     ∙ ap (λ (o : Option _). next_after file_codec.cmp o (tables_now t).files) (sym c.in-None.is)

@@ -10,7 +10,7 @@ use Rattle.volume_tables.proofs.WellFormed.{apart, extents_table}
 use Rattle.volume_tables.proofs.Puts.{extent_put}
 use Rattle.volume_tables.proofs.Sizes.{extent_key}
 use Rattle.volume_tables.proofs.Held.{held_set, same_others}
-use Rattle.volume_tables.proofs.Setting.{quiet_leaves, entry_set, entry_contents, entry_held, entry_few, entry_now}
+use Rattle.volume_tables.proofs.Setting.{quiet_leaves, entry_set, entry_contents, entry_held, entry_few, entry_now, entry_kept}
 use Rattle.volume_tables.proofs.Counts.{entry_named}
 use Rattle.volume_tables.proofs.tables.Tables.put_extent.Goals as goal
 
@@ -46,26 +46,27 @@ invariant_of-self-clause-few g c running worn =
     entry_few extent_codec c.args.self.now c.put.new.log k c.args.extent c.put.result c.put.ensures 24
     (omega (arith, key, value)) c.requires.room
 
-pub returns-clause-ok : goal.returns-clause-ok
-returns-clause-ok g c =
-    let t = c.args.self.now in
-    let k : FileBlock = (c.args.key.0, c.args.key.1) in
-    entry_now extent_codec t c.put.new.log k c.args.extent c.put.result c.put.ensures (with_extent k c.args.extent)
-    (λ x. refl)
-    (extent_put (log_now t.log) (log_now c.put.new.log) (as_true t.contents.sorted) k c.args.extent)
-
-pub returns-clause-set : goal.returns-clause-set
-returns-clause-set g c =
-    let k : FileBlock = (c.args.key.0, c.args.key.1) in
-    entry_set extent_codec 6 extents_table c.args.self.now c.put.new.log k c.args.extent c.put.result
-    (as_true c.args.self.now.contents.sorted) c.put.ensures 13
-    (extent_key c.put.ensures.key k c.put.ensures.spells) 24 refl
-
-pub returns-clause-leaves : goal.returns-clause-leaves
-returns-clause-leaves g c =
-    quiet_leaves c.args.self.now _ c.put.ensures.quiet refl refl refl (g.met.D.Disk.same_self c.args.self.now.log.disk)
-
 pub invariant_of-self-clause-named : goal.invariant_of-self-clause-named
 invariant_of-self-clause-named g c =
     let k : FileBlock = (c.args.key.0, c.args.key.1) in
     entry_named c.args.self.now c.put.new.log extent_codec (apart 4 2 refl) k c.args.extent c.put.result c.put.ensures
+
+pub returns : goal.returns
+returns g c = record {
+  ok =
+      let t = c.args.self.now in
+      let k : FileBlock = (c.args.key.0, c.args.key.1) in
+      entry_now extent_codec t c.put.new.log k c.args.extent c.put.result c.put.ensures (with_extent k c.args.extent)
+      (λ x. refl)
+      (extent_put (log_now t.log) (log_now c.put.new.log) (as_true t.contents.sorted) k c.args.extent);
+  err = entry_kept extent_codec c.args.self.now c.put.new.log (c.args.key.0, c.args.key.1) c.args.extent c.put.result
+      c.put.ensures;
+  set =
+      let k : FileBlock = (c.args.key.0, c.args.key.1) in
+      entry_set extent_codec 6 extents_table c.args.self.now c.put.new.log k c.args.extent c.put.result
+      (as_true c.args.self.now.contents.sorted) c.put.ensures 13
+      (extent_key c.put.ensures.key k c.put.ensures.spells) 24 refl;
+  leaves =
+      quiet_leaves c.args.self.now _ c.put.ensures.quiet refl refl refl refl (g.met.D.Disk.same_self c.args.self.now.log.disk);
+  states = refl;
+}

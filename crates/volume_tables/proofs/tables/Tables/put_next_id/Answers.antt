@@ -53,7 +53,7 @@ returns-clause-checkpoint g c =
     volume_checkpoint c.args.self.now c.put.new.log c.args.next_id c.put.result c.put.ensures
 
 pub returns-clause-leaves : goal.returns-clause-leaves
-returns-clause-leaves g c = quiet_leaves c.args.self.now _ c.put.ensures.quiet refl refl refl
+returns-clause-leaves g c = quiet_leaves c.args.self.now _ c.put.ensures.quiet refl refl refl refl
     (g.met.D.Disk.same_self c.args.self.now.log.disk)
 
 pub invariant_of-self-clause-named : goal.invariant_of-self-clause-named

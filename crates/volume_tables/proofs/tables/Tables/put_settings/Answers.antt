@@ -28,7 +28,7 @@ returns-in_err-put_settings-clause-set g c =
 
 pub returns-in_err-put_settings-clause-leaves : goal.returns-in_err-put_settings-clause-leaves
 returns-in_err-put_settings-clause-leaves g c =
-    quiet_leaves c.args.self.now _ c.put_settings.ensures.quiet refl refl refl
+    quiet_leaves c.args.self.now _ c.put_settings.ensures.quiet refl refl refl refl
     (g.met.D.Disk.same_self c.args.self.now.log.disk)
 
 pub invariant_of-self-2-clause-contents : goal.invariant_of-self-2-clause-contents
@@ -66,7 +66,7 @@ returns-clause-set g c = resized c.args.self.now c.put_settings.new.log c.args.s
 
 pub returns-clause-leaves : goal.returns-clause-leaves
 returns-clause-leaves g c =
-    quiet_leaves c.args.self.now _ c.put_settings.ensures.quiet refl refl refl
+    quiet_leaves c.args.self.now _ c.put_settings.ensures.quiet refl refl refl refl
     (g.met.D.Disk.same_self c.args.self.now.log.disk)
 
 pub invariant_of-self-2-clause-named : goal.invariant_of-self-2-clause-named

@@ -8,7 +8,7 @@ use Rattle.volume_tables.proofs.WellFormed.{apart, files_table}
 use Rattle.volume_tables.proofs.Puts.{file_put}
 use Rattle.volume_tables.proofs.Sizes.{file_key}
 use Rattle.volume_tables.proofs.Held.{held_same}
-use Rattle.volume_tables.proofs.Setting.{quiet_leaves, entry_set, entry_contents, entry_held, entry_few, entry_now}
+use Rattle.volume_tables.proofs.Setting.{quiet_leaves, entry_set, entry_contents, entry_held, entry_few, entry_now, entry_kept}
 use Rattle.volume_tables.proofs.Counts.{entry_named}
 use Rattle.volume_tables.proofs.tables.Tables.set_file.Goals as goal
 
@@ -33,24 +33,24 @@ invariant_of-self-clause-few g c running worn =
     entry_few file_codec c.args.self.now c.put.new.log c.args.id c.args.file c.put.result c.put.ensures 38
     (omega (arith, key, value)) c.requires
 
-pub returns-clause-ok : goal.returns-clause-ok
-returns-clause-ok g c =
-    let t = c.args.self.now in
-    entry_now file_codec t c.put.new.log c.args.id c.args.file c.put.result c.put.ensures
-    (with_file c.args.id c.args.file) (λ x. refl)
-    (file_put (log_now t.log) (log_now c.put.new.log) (as_true t.contents.sorted) c.args.id c.args.file)
-
-pub returns-clause-set : goal.returns-clause-set
-returns-clause-set g c =
-    entry_set file_codec 24 files_table c.args.self.now c.put.new.log c.args.id c.args.file c.put.result
-    (as_true c.args.self.now.contents.sorted) c.put.ensures 9
-    (file_key c.put.ensures.key c.args.id c.put.ensures.spells) 38 refl
-
-pub returns-clause-leaves : goal.returns-clause-leaves
-returns-clause-leaves g c =
-    quiet_leaves c.args.self.now _ c.put.ensures.quiet refl refl refl (g.met.D.Disk.same_self c.args.self.now.log.disk)
-
 pub invariant_of-self-clause-named : goal.invariant_of-self-clause-named
 invariant_of-self-clause-named g c =
     entry_named c.args.self.now c.put.new.log file_codec
     (apart 3 2 refl) c.args.id c.args.file c.put.result c.put.ensures
+
+pub returns : goal.returns
+returns g c = record {
+  ok =
+      let t = c.args.self.now in
+      entry_now file_codec t c.put.new.log c.args.id c.args.file c.put.result c.put.ensures
+      (with_file c.args.id c.args.file) (λ x. refl)
+      (file_put (log_now t.log) (log_now c.put.new.log) (as_true t.contents.sorted) c.args.id c.args.file);
+  err = entry_kept file_codec c.args.self.now c.put.new.log c.args.id c.args.file c.put.result c.put.ensures;
+  set =
+      entry_set file_codec 24 files_table c.args.self.now c.put.new.log c.args.id c.args.file c.put.result
+      (as_true c.args.self.now.contents.sorted) c.put.ensures 9
+      (file_key c.put.ensures.key c.args.id c.put.ensures.spells) 38 refl;
+  leaves =
+      quiet_leaves c.args.self.now _ c.put.ensures.quiet refl refl refl refl (g.met.D.Disk.same_self c.args.self.now.log.disk);
+  states = refl;
+}

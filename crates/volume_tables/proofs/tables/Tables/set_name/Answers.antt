@@ -9,7 +9,7 @@ use Rattle.volume_tables.proofs.WellFormed.{apart, names_table}
 use Rattle.volume_tables.proofs.Puts.{name_put}
 use Rattle.volume_tables.proofs.Sizes.{name_key}
 use Rattle.volume_tables.proofs.Held.{held_same}
-use Rattle.volume_tables.proofs.Setting.{quiet_leaves, entry_set, entry_contents, entry_held, entry_few, entry_now}
+use Rattle.volume_tables.proofs.Setting.{quiet_leaves, entry_set, entry_contents, entry_held, entry_few, entry_now, entry_kept}
 use Rattle.volume_tables.proofs.Counts.{told_names, name_others}
 use Rattle.volume_tables.proofs.tables.Tables.set_name.Goals as goal
 
@@ -35,26 +35,6 @@ invariant_of-self-clause-few g c running worn =
     entry_few name_codec c.args.self.now c.put_name-answer.new.log c.args.name.now c.args.id c.put_name-answer.result
     c.put_name-answer.ensures (14 + length c.args.name.now) (omega (arith, key, value)) c.requires.room
 
-pub returns-clause-ok : goal.returns-clause-ok
-returns-clause-ok g c =
-    let t = c.args.self.now in
-    entry_now name_codec t c.put_name-answer.new.log c.args.name.now c.args.id c.put_name-answer.result
-    c.put_name-answer.ensures (with_name c.args.name.now c.args.id) (λ x. refl)
-    (name_put (log_now t.log) (log_now c.put_name-answer.new.log) (as_true t.contents.sorted) c.args.name.now c.args.id)
-
-pub returns-clause-set : goal.returns-clause-set
-returns-clause-set g c =
-    entry_set name_codec 8 names_table c.args.self.now c.put_name-answer.new.log c.args.name.now c.args.id
-    c.put_name-answer.result (as_true c.args.self.now.contents.sorted) c.put_name-answer.ensures
-    (length c.args.name.now + 1)
-    (name_key c.put_name-answer.ensures.key c.args.name.now c.put_name-answer.ensures.spells)
-    (14 + length c.args.name.now) (omega arith)
-
-pub returns-clause-leaves : goal.returns-clause-leaves
-returns-clause-leaves g c =
-    quiet_leaves c.args.self.now _ c.put_name-answer.ensures.quiet refl refl refl
-    (g.met.D.Disk.same_self c.args.self.now.log.disk)
-
 pub overflow_sub-self : goal.overflow_sub-self
 overflow_sub-self g c =
     let t = c.args.self.now in
@@ -74,3 +54,24 @@ invariant_of-self-clause-named g c =
     (told_names t log c.other_pairs-others.result c.count.result after.spelled
     (name_others t log c.args.name.now c.args.id c.put_name-answer.result c.put_name-answer.ensures)
     c.other_pairs-others.ensures (c.count.ensures.count ∙ ap (λ (m : Map). length m) c.pairs.ensures)).1
+
+pub returns : goal.returns
+returns g c = record {
+  ok =
+      let t = c.args.self.now in
+      entry_now name_codec t c.put_name-answer.new.log c.args.name.now c.args.id c.put_name-answer.result
+      c.put_name-answer.ensures (with_name c.args.name.now c.args.id) (λ x. refl)
+      (name_put (log_now t.log) (log_now c.put_name-answer.new.log) (as_true t.contents.sorted) c.args.name.now c.args.id);
+  err = entry_kept name_codec c.args.self.now c.put_name-answer.new.log c.args.name.now c.args.id c.put_name-answer.result
+      c.put_name-answer.ensures;
+  set =
+      entry_set name_codec 8 names_table c.args.self.now c.put_name-answer.new.log c.args.name.now c.args.id
+      c.put_name-answer.result (as_true c.args.self.now.contents.sorted) c.put_name-answer.ensures
+      (length c.args.name.now + 1)
+      (name_key c.put_name-answer.ensures.key c.args.name.now c.put_name-answer.ensures.spells)
+      (14 + length c.args.name.now) (omega arith);
+  leaves =
+      quiet_leaves c.args.self.now _ c.put_name-answer.ensures.quiet refl refl refl refl
+      (g.met.D.Disk.same_self c.args.self.now.log.disk);
+  states = refl;
+}

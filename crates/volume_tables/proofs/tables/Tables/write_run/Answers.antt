@@ -52,5 +52,6 @@ returns-clause-leaves g c =
       later = s.later;
       place = s.place.next;
       epoch = s.place.epoch;
+      ends = refl;
       worn = refl;
     }
