@@ -1,8 +1,7 @@
 //! Rows of scripts: how data files spell them, how they are run over a disk in memory, and what a plain volume in
 //! memory answers to them.
 //!
-//! `data/README.md` of the program `ddp_rows` tells the marks of the lines. The programs over such rows are `ddp_rows`
-//! and `ddp_cut_crashes`, which differ in their data alone.
+//! `data/README.md` of the program `ddp_rows` tells the marks of the lines.
 #![tactic(auto)]
 
 mod blocks;

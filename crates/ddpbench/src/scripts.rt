@@ -6,7 +6,7 @@ use std::alloc::{AllocError, Global};
 pub const FILE_BYTES: u64 = 1_048_576;
 
 /// The bytes of a block of a file.
-pub const BLOCK_BYTES: u64 = 4096;
+pub const BLOCK_BYTES: u64 = ddpsh::CLUSTER_BYTES as u64;
 
 /// The bytes of a part that is written anew, and how many of them are as long as a file.
 pub const PART_BYTES: u64 = 65_536;

@@ -23,9 +23,9 @@ const COPY: &str = "ddpbench-store.copy";
 const NOWHERE: &str = "/dev/null";
 
 /// The fewest and the most clusters of an image.
-const LEAST_CLUSTERS: u64 = 4096;
+const LEAST_CLUSTERS: u64 = ddpsh::LEAST_CLUSTERS as u64;
 
-const MOST_CLUSTERS: u64 = 1_048_576;
+const MOST_CLUSTERS: u64 = ddpsh::MOST_CLUSTERS as u64;
 
 /// The clusters beside those of the files: what is written anew between two flushes finds room in them.
 const SPARE_CLUSTERS: u64 = 4352;

@@ -78,7 +78,7 @@ module _ {D : Type 0} {d : Ghosts D} where
     ids = omega (arith, has.ids, changes);
     epochs = omega (arith, has.epochs, changes);
     worn = λ h. omega (arith, has.worn h, changes);
-    settings = has.settings;
+    same = has.same;
   }
 
   are_spent : (n b i : ℕ) (v : Engine D d) → WantsAreSpent v → clusters_in v ≡ n → i < 2 ^ 48 - 2 → HasSpent v b i

@@ -21,7 +21,7 @@ use Rattle.volume_tables.specs.Wants.{is_late, reply_of, IsReplied}
 use Rattle.cmdlet_line.specs.Lines.{Ask, Create, Write, Read, Fill, Length, Rename, Delete, Digest, Stat, Listing, Flush, Exit}
 use Rattle.meta_log.specs.Meta.{last_epoch}
 use Rattle.volume_inside.specs.Inside.{Inside}
-use Rattle.volume_core.specs.States.{volume_in, wears_at}
+use Rattle.volume_core.specs.States.{plain_in, wears_at}
 use Rattle.volume_core.proofs.Moving.{after_leaves}
 use Rattle.volume_core.specs.Moves.{Moves, inside_after}
 use Rattle.volume_core.specs.Replies.{RepliesOrMemory}
@@ -34,7 +34,7 @@ use Rattle.ddpsh.specs.Answers.{Comes, Starts, Begun, OneCall, NoCall, OneBegun,
 use Rattle.ddpsh.specs.Runs.{Made, acknowledges}
 use Rattle.answer_text.specs.Saying.{IsSaid, plain_kind, exit_kind}
 use Rattle.ddpsh.specs.Saying.{kind_of}
-use Rattle.volume_core.specs.Bounds.{Adds}
+use Rattle.volume_core.specs.Bounds.{AddsToSpent}
 use Rattle.volume_core.specs.Volumes.{disk_of, view_now, stopped, IsKept, Endures}
 use Rattle.volume_core.specs.Wants.{wants_of, IsWant}
 use Rattle.ddpsh.specs.Served.{volume_state, IsStored, IsDurable, IsServed, IsBroken, ComesTo, StaysSame, IsSteady}
@@ -58,7 +58,7 @@ begun_none (Digest name) payload v = inl refl
 begun_none (Stat name) payload v = inl refl
 begun_none Listing payload v = record {
   front = [];
-  rest = listing None (volume_in v);
+  rest = listing None (plain_in v);
   last = [];
   whole = refl;
   calls_are = refl;
@@ -176,7 +176,7 @@ module _ {D : Type 0} {d : Ghosts D} where
     pub fails : IsTrue (may_want call fault.Failed)
     pub moves : Moves call given (volume_state old) (volume_state new)
     pub endures : Endures old new
-    pub adds : Adds call old new
+    pub adds : AddsToSpent call old new
 
   -- what a call did that looks at the volume alone, and wants no resource but memory
   pub record Told (call : Call) (v : Engine D d) (given : Reply) : Type 0 where
@@ -341,6 +341,20 @@ flush_said : (v : Volume) (want : Option Fault) (before now : ℕ) (r : Result (
 flush_said v want before now r answer replied says =
     sym (ap said (own_said call.Flush (plain v call.Flush) want (done_reply r) answer before now (inl replied) says)) ∙ says
 
+flush_wants : (w f : Fault) → IsWant call.Flush (Some w) → f ≡ w → (f ≡ fault.Failed) ⊎ (f ≡ fault.Worn)
+flush_wants fault.Failed f may is = inl is
+flush_wants fault.Worn f may is = inr is
+flush_wants other f may is = absurd (false≢true may)
+
+faults_of_flush : (v : Volume) (want : Option Fault) (before now : ℕ) (f : Fault) → IsWant call.Flush want
+    → IsReplied (plain v call.Flush) want before now (done_reply (Err f)) → (f ≡ fault.Failed) ⊎ (f ≡ fault.Worn)
+faults_of_flush v None before now f may (inl is) =
+    let no : reply.Refused f ≡ reply.Done = is in absurd (let never : ⊥ = cc in never)
+faults_of_flush v (Some w) before now f may (inl is) =
+    let same : reply.Refused f ≡ reply.Refused w = is in flush_wants w f may cc
+faults_of_flush v want before now f may (inr failed) =
+    let same : reply.Refused f ≡ reply.Refused fault.Failed = failed.0 in inl cc
+
 flush_inside : (i : Inside) (r : Result (Unit {0}) Fault) → inside_after call.Flush (done_reply r) i ≡ i
 flush_inside i (Ok done) = refl
 flush_inside i (Err f) = refl
@@ -363,7 +377,13 @@ module _ {D : Type 0} {d : Ghosts D} where
     pub stored : OnOk r (IsStored new)
     pub moves : Moves call.Flush (done_reply r) (volume_state old) (volume_state new)
     pub endures : Endures old new
-    pub adds : Adds call.Flush old new
+    pub adds : AddsToSpent call.Flush old new
+
+  -- a flush is refused because the device failed, or for want of an epoch
+  pub flush_faults : (old new : Engine D d) (f : Fault) → IsWant call.Flush (wants_of old call.Flush)
+      → IsReplied (plain (view_now old) call.Flush) (wants_of old call.Flush) (disk_of old).faults (disk_of new).faults (done_reply (Err f))
+      → (f ≡ fault.Failed) ⊎ (f ≡ fault.Worn)
+  flush_faults old new f = faults_of_flush (view_now old) (wants_of old call.Flush) (disk_of old).faults (disk_of new).faults f
 
   pub flush_view : (old new : Engine D d) (r : Result (Unit {0}) Fault) → Flushed old new r → view_now new ≡ view_now old
   flush_view old new r did = did.left ∙ flush_after (view_now old) r

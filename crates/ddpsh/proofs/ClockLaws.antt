@@ -261,9 +261,9 @@ module _ {D : Type 0} {d : Ghosts D} where
       (before now : Option (List ℕ)) (was second : ℕ) → DoesStep (item_of asked behind) old new held after (Ok kind) acks later
       → ReadsClock asked before now was second (Ok kind) ⊎ (IsErrOf (Ok kind) stop.Memory × (now ≡ before)) → AreRead (kind_counted kind) before now
   step_read asked behind old new held after kind acks later before now was second step (inl reads) =
-      let answer = step.ends.0 in
+      let answer = step.run.ends.0 in
       let counts : kind_counted kind ≡ cond (not (is_silent asked)) 1 0 =
-      ap kind_counted step.ends.2 ∙ counted_asked asked behind _ _ step.calls answer step.ends.1 in
+      ap kind_counted step.run.ends.2 ∙ counted_asked asked behind _ _ step.run.calls answer step.run.ends.1 in
       subst (λ (n : ℕ). AreRead n before now) (sym counts) (answered_read asked before now kind reads.read reads.is_read reads.fails)
   step_read asked behind old new held after kind acks later before now was second step (inr bad) =
       let no : Ok kind ≡ Err stop.Memory = bad.0 in absurd (let never : ⊥ = cc in never)

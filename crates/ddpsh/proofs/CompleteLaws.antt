@@ -8,7 +8,7 @@ use Rattle.volume_inside.specs.declared.mount_fault.MountFault.{MountFault}
 use Rattle.volume_inside.specs.declared.mount_fault.MountFault.TheVariants as mount
 use Rattle.volume_tables.specs.Mount.{read_meta}
 use Rattle.ddpsh.specs.Complete.{CanOpen, IsComplete}
-use Rattle.ddpsh.specs.Opens.{IsRefusal, is_reason}
+use Rattle.ddpsh.specs.Opens.{IsOpeningFault, is_reason}
 use Rattle.ddpsh.specs.Outcomes.{status_of}
 use Rattle.ddpsh.specs.declared.commands.Command.{Command}
 use Rattle.ddpsh.specs.declared.commands.Command.TheVariants.{Mount, Format}
@@ -45,7 +45,7 @@ not_both once image inside fault has lacks =
 
 -- a sound opening is not refused
 pub not_refused : HasOneInside → (command : Command) (old new : DiskState) (fault : MountFault) → CanOpen command old
-    → IsRefusal command old new fault → is_reason fault ≡ true → ⊥
+    → IsOpeningFault command old new fault → is_reason fault ≡ true → ⊥
 not_refused once Mount old new mount.NotVolume can is h =
     not_both once old.image can.1.0 mount.NotVolume can.1.1 (is can.0)
 not_refused once Mount old new (mount.VersionUnknown found) can is h =

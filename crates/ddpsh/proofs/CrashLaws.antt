@@ -11,7 +11,7 @@ use Rattle.plain_volume.specs.Step.{replay}
 use Rattle.plain_volume.specs.declared.call.Call.{Call}
 use Rattle.plain_volume.specs.declared.call.Reply.{Reply}
 use Rattle.volume_inside.specs.Shows.{Shows, ShowsEither}
-use Rattle.volume_core.specs.Bounds.{touched_by, changed_by, Adds}
+use Rattle.volume_core.specs.Bounds.{touched_by, changed_by, AddsToSpent}
 use Rattle.volume_core.specs.Volumes.{disk_of, area_of, view_now, stopped, clusters_in, IsKept, Endures}
 use Rattle.ddpsh.specs.Bounds.{touched_by_all}
 use Rattle.ddpsh.specs.Crashes.{Mounts, MountsAfter, Carries, AreInOrder, LastsFrom}
@@ -105,7 +105,7 @@ module _ {D : Type 0} {d : Ghosts D} where
 
   -- what a call keeps, it keeps as any front of a line's calls; and it adds no more than these touch
   pub carries_call : (call : Call) (old new : Engine D d) (calls : List (Call × Reply)) → Endures old new
-      → Adds call old new → touched_by call ≤ touched_by_all calls → Carries old new calls
+      → AddsToSpent call old new → touched_by call ≤ touched_by_all calls → Carries old new calls
   carries_call call old new calls endures adds touches = record {
     moments = λ w is. keeps_as (disk_of old) (disk_of new) (ShowsEither (area_of old) w (view_now old)) (λ c. Mounts w c ⊎ MountsAfter (view_now old) calls 0 c)
         (λ c shows. either_mounts old calls w c shows) (endures.moments w is);

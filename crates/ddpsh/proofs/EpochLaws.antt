@@ -15,13 +15,13 @@ use Rattle.volume_tables.specs.Pending.{Needs, Pending, last_id, wears_in, finds
 use Rattle.volume_files.specs.Lengths.{for_file, length_of}
 use Rattle.volume_files.specs.Needs.{create_needs, rename_needs, delete_needs, write_needs, length_needs}
 use Rattle.volume_core.specs.Moves.{Moves}
-use Rattle.volume_core.specs.States.{wears_at, wants_in, wants_but_epochs, wanting_in, write_wants_in, file_in, left_in, tables_told, IsStateOf}
+use Rattle.volume_core.specs.States.{wears_at, wants_in, wants_but_epochs, wanting_in, write_wants_in, id_of_name, left_in, tables_told, IsStateOf}
 use Rattle.ddpsh.specs.States.{State, reply_in}
 use Rattle.script_items.specs.Script.{Item, Bad, Bare, Paid, Cut, Spoilt}
 use Rattle.answer_text.specs.Answers.{Answer, Nothing, Refused, said, refusal_text}
 use Rattle.ddpsh.specs.Answers.{OneCall, NoCall, Serves, Comes}
-use Rattle.ddpsh.specs.Runs.{Entry, AreAnswered, left_by}
-use Rattle.ddpsh.specs.Laws.{IsWithin, FewLinesWantNoEpoch}
+use Rattle.ddpsh.specs.Runs.{Entry, AreAnswered, state_behind}
+use Rattle.ddpsh.specs.Laws.{HasEpochWithin, FewLinesWantNoEpoch}
 use Rattle.ddpsh.proofs.BoundLaws.{changed_once}
 
 -- ---- what is wanting where no epoch is
@@ -55,8 +55,8 @@ module _ (s : State) (fresh : wears_at s ≡ false) where
 
   pub wants_fresh : (c : Call) → wants_in s c ≡ wants_but_epochs s.clusters s.inside c
   wants_fresh (call.Create name) = wanting_fresh (create_needs name)
-  wants_fresh (call.Write name at bytes) = file_fresh (file_in s name) _ _ (λ id. write_fresh id at bytes)
-  wants_fresh (call.SetLength name len) = file_fresh (file_in s name) _ _
+  wants_fresh (call.Write name at bytes) = file_fresh (id_of_name s name) _ _ (λ id. write_fresh id at bytes)
+  wants_fresh (call.SetLength name len) = file_fresh (id_of_name s name) _ _
       (λ id. wanting_fresh (length_needs (tables_told s.inside) id (length_of (tables_told s.inside) id) len))
   wants_fresh (call.Rename from to) = wanting_fresh (rename_needs from to)
   wants_fresh (call.Delete name) = wanting_fresh (delete_needs name)
@@ -128,7 +128,7 @@ module _ (before : State) (calls : List (Call × Reply)) (answer : Answer) (afte
 
 -- a state after so many lines: an epoch is wanting only at the last
 abbrev pub IsFresh : ℕ → ℕ → State → Type 0
-IsFresh opened lines s = IsWithin opened lines s × IsLateWorn s
+IsFresh opened lines s = HasEpochWithin opened lines s × IsLateWorn s
 
 pub fresh_start : (image : List ℕ) (s : State) → IsStateOf image s → IsFresh s.pending.epoch 0 s
 fresh_start image s is =
@@ -146,7 +146,7 @@ fresh_more opened lines e before comes fresh =
     ((omega (arith, stands, least), omega (arith, most, few)), p.wears fresh.1)
 
 fresh_all : (opened lines : ℕ) (es : List Entry) (before : State) → AreAnswered before es → IsFresh opened lines before
-    → IsFresh opened (lines + length es) (left_by before es)
+    → IsFresh opened (lines + length es) (state_behind before es)
 fresh_all opened lines [] before answers fresh =
     let most = fresh.0.1 in ((fresh.0.0, omega (arith, most)), fresh.1)
 fresh_all opened lines (e ∷ es) before answers fresh =
@@ -169,7 +169,7 @@ none_wears opened lines s fresh far = by (wears_at s) refl
 
 pub few_want_none : FewLinesWantNoEpoch
 few_want_none image opening script es rest now is served far =
-    let all : IsFresh opening.pending.epoch (0 + length es) (left_by opening es) =
+    let all : IsFresh opening.pending.epoch (0 + length es) (state_behind opening es) =
     fresh_all opening.pending.epoch 0 es opening served.answers (fresh_start image opening is) in
     let here : IsFresh opening.pending.epoch (length es) now =
     subst (λ (s : State). IsFresh opening.pending.epoch (length es) s) (sym served.state)

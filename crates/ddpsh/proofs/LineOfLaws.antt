@@ -1,5 +1,5 @@
 -- A line of a session, from what its item came to.
-use Rattle.std.proofs.Common.{◌≡◌, ◌<◌, ◌+◌, ◌-◌, ◌^◌, ◌||◌, ◌&&◌, min, ℕ, zero, suc, Bool, true, false, cond, nat_lt, List, [], ◌++◌, length, drop, take, Option, Some, None, Result, Ok, Err, refl, sym, ◌∙◌, ap, subst, arith, append-nil}
+use Rattle.std.proofs.Common.{◌≡◌, ◌<◌, ◌+◌, ◌-◌, ◌^◌, ◌||◌, ◌&&◌, min, ℕ, zero, suc, Bool, true, false, cond, nat_lt, List, [], ◌++◌, length, drop, take, Option, Some, None, Result, Ok, Err, IfOk, ◌⊎◌, inl, inr, refl, sym, ◌∙◌, ap, subst, arith, append-nil}
 use Rattle.std.proofs.lemmas.Bool.{false≢true}
 use Rattle.vdisk.specs.declared.disk.Disk.{Ghosts}
 use Rattle.plain_volume.specs.declared.call.Call.{Call}
@@ -9,6 +9,7 @@ use Rattle.plain_volume.specs.declared.call.Fault.{Fault}
 use Rattle.plain_volume.specs.declared.call.Fault.TheVariants as fault
 use Rattle.cmdlet_line.specs.declared.lines.Line.{Line}
 use Rattle.cmdlet_line.specs.declared.lines.LineFault.{LineFault}
+use Rattle.cmdlet_line.specs.Spelled.{AreInRange}
 use Rattle.cmdlet_line.specs.Lines.{Ask, Refusal, Gives, ask_of, Silent, Create, Write, Read, Fill, Length, Rename, Delete, Digest, Stat, Listing, Flush, Exit}
 use Rattle.ddpsh.specs.States.{State}
 use Rattle.script_items.specs.Script.{Item, Paid, Cut, Spoilt, item_of, ends_well}
@@ -21,13 +22,14 @@ use Rattle.answer_text.specs.Told.{IsPut, IsPutInPart}
 use Rattle.volume_core.specs.Volumes.{disk_of}
 use Rattle.ddpsh.specs.Crashes.{Carries}
 use Rattle.ddpsh.specs.Served.{asked_as, volume_state, IsDurable}
-use Rattle.ddpsh.specs.Sessions.{state_of, ack_now, acks_if, counted_on, let_go, acknowledge, LineEnds, EndEnds, HasCome, DoesLine, DoesEnd}
+use Rattle.ddpsh.specs.Sessions.{state_of, ack_now, acks_if, counted_up, let_go, acknowledge, LineEnds, EndEnds, HasCome, DoesLine, DoesEnd}
 use Rattle.ddpsh.specs.Acks.{ack_list}
-use Rattle.ddpsh.specs.Steps.{acks_when, session_end, EndsOver, DoesStep, DoesEndStep}
+use Rattle.ddpsh.specs.Steps.{acks_when, session_end, DoesStep, DoesEndStep}
 use Rattle.ddpsh.specs.declared.acks.Ack.{Ack}
 use Rattle.answer_text.specs.declared.answers.Answered.{Answered}
 use Rattle.answer_text.specs.declared.answers.Answered.TheVariants as answered
 use Rattle.ddpsh.specs.declared.ending.End.{End}
+use Rattle.ddpsh.specs.declared.ending.End.TheVariants as ends
 use Rattle.answer_text.specs.declared.stops.SessionFault.{SessionFault}
 use Rattle.answer_text.specs.declared.stops.SessionFault.TheVariants as stop
 use Rattle.volume_core.specs.declared.volume.Volume.{Volume as Engine}
@@ -67,11 +69,15 @@ flush_no_exit (Err refusal) behind = refl
 flush_no_exit (Ok Flush) behind = refl
 flush_no_exit (Ok other) behind = refl
 
+no_memory : (fault.Memory ≡ fault.Failed) ⊎ (fault.Memory ≡ fault.Worn) → ⊥
+no_memory (inl h) = cc
+no_memory (inr h) = cc
+
 listed : (durable : Bool) (ack : Ack) → ack_list (acks_if durable ack) ≡ acks_when durable ack
 listed true ack = refl
 listed false ack = refl
 
-pub counted_sum : (n more sum : ℕ) → n < 2 ^ 64 → sum ≡ min (n + more) (2 ^ 64 - 1) → sum ≡ counted_on n more
+pub counted_sum : (n more sum : ℕ) → n < 2 ^ 64 → sum ≡ min (n + more) (2 ^ 64 - 1) → sum ≡ counted_up n more
 counted_sum n zero sum small is = omega (arith, small, is)
 counted_sum n (suc more) sum small is = is
 
@@ -92,14 +98,9 @@ pub gives_as : (read : Result Line LineFault) (given : Result Ask Refusal) → G
 gives_as (Ok line) given h = h
 gives_as (Err fault) given h = h
 
-ends_over : (result : Result Answered SessionFault) (v : State) (durable : Bool) → EndEnds result v durable → EndsOver (session_end result) v durable
-ends_over (Ok answered.Ok) v durable ends = ends
-ends_over (Ok answered.Refused) v durable ends = ends
-ends_over (Ok answered.Silent) v durable ends = absurd ends
-ends_over (Ok answered.Exit) v durable ends = absurd ends
-ends_over (Err stop.Device) v durable ends = ends
-ends_over (Err stop.Memory) v durable ends = ends
-ends_over (Err stop.Sink) v durable ends = absurd ends
+pub fits_as : (read : Result Line LineFault) (given : Result Ask Refusal) → Gives ask_of read given → ((ask : Ask) → given ≡ Ok ask → AreInRange ask) → IfOk (asked_as read) AreInRange
+fits_as (Ok line) given gives law = law (ask_of line) gives
+fits_as (Err fault) given gives law = tt
 
 module _ {D : Type 0} {d : Ghosts D} where
   go_volume : (k : Answered) (s : Session D d) → (let_go k s).volume ≡ s.volume
@@ -146,14 +147,17 @@ module _ {D : Type 0} {d : Ghosts D} where
   pub line_stop : (item : Item) (old new : Session D d) (held : Option (List ℕ)) (text : List ℕ) (f : SessionFault) → (f ≡ stop.Sink → ⊥) → HasCome item old new (Err f) text → new.ack ≡ None
       → DoesLine item old new held held (Err f)
   line_stop item old new held text f not_sink come none = record {
-    calls = come.3.calls;
     durable = false;
-    made = come.3.legal;
-    ends = stop_ends item (state_of old) (state_of new) come.3.calls held f not_sink come.3.starts;
-    counted = come.1 ∙ ap (counted_on old.calls) come.3.count;
-    few = omega (arith, come.2, come.3.count);
-    carries = come.3.carries;
-    acks = record { ack = none; durable = λ h. absurd (false≢true h) };
+    run = record {
+      calls = come.3.calls;
+      made = come.3.legal;
+      ends = stop_ends item (state_of old) (state_of new) come.3.calls held f not_sink come.3.starts;
+      counted = come.1 ∙ ap (counted_up old.calls) come.3.count;
+      few = omega (arith, come.2, come.3.count);
+      carries = come.3.carries;
+      stands = λ h. absurd (false≢true h);
+    };
+    ack = none;
   }
 
   module _ (item : Item) (old mid new : Session D d) (before held : Option (List ℕ)) (text : List ℕ) (kind : Answered) (come : HasCome item old mid (Ok kind) text)
@@ -164,8 +168,8 @@ module _ {D : Type 0} {d : Ghosts D} where
     came_comes : Comes item (state_of old) come.3.calls come.3.answer (state_of new)
     came_comes = subst (λ (v : Engine D d). Comes item (volume_state old.volume) come.3.calls come.3.answer (volume_state v)) (sym volume) come.3.comes
 
-    came_counted : new.calls ≡ counted_on old.calls (length come.3.calls)
-    came_counted = calls ∙ (come.1 ∙ ap (counted_on old.calls) come.3.count)
+    came_counted : new.calls ≡ counted_up old.calls (length come.3.calls)
+    came_counted = calls ∙ (come.1 ∙ ap (counted_up old.calls) come.3.count)
 
     came_carries : Carries old.volume new.volume come.3.calls
     came_carries = subst (λ (v : Engine D d). Carries old.volume v come.3.calls) (sym volume) come.3.carries
@@ -176,31 +180,34 @@ module _ {D : Type 0} {d : Ghosts D} where
     -- the answer is written whole
     pub line_done : new.ack ≡ acks_if (acknowledges item come.3.answer) (ack_now mid) → IsPut before text held → DoesLine item old new before held (Ok kind)
     line_done ack put = record {
-      calls = come.3.calls;
       durable = acknowledges item come.3.answer;
-      made = came_made;
-      ends = (come.3.answer, came_comes, come.3.kind_is, refl, subst (λ (t : List ℕ). IsPut before t held) come.3.text_is put);
-      counted = came_counted;
-      few = omega (arith, come.2, come.3.count);
-      carries = came_carries;
-      acks = record { ack = ack ∙ ap (acks_if (acknowledges item come.3.answer)) (sym (ack_same new mid volume calls)); durable = came_kept };
+      run = record {
+        calls = come.3.calls;
+        made = came_made;
+        ends = (come.3.answer, came_comes, come.3.kind_is, refl, subst (λ (t : List ℕ). IsPut before t held) come.3.text_is put);
+        counted = came_counted;
+        few = omega (arith, come.2, come.3.count);
+        carries = came_carries;
+        stands = came_kept;
+      };
+      ack = ack ∙ ap (acks_if (acknowledges item come.3.answer)) (sym (ack_same new mid volume calls));
     }
 
     -- the sink failed
     pub line_cut : new.ack ≡ acks_if (is_exit item && is_accepted come.3.answer) (ack_now mid) → (is_exit item ≡ true → is_durable item ≡ true) → IsPutInPart before text held
         → DoesLine item old new before held (Err stop.Sink)
     line_cut ack durable put = record {
-      calls = come.3.calls;
       durable = is_exit item && is_accepted come.3.answer;
-      made = came_made;
-      ends = (come.3.answer, came_comes, refl, subst (λ (t : List ℕ). IsPutInPart before t held) come.3.text_is put);
-      counted = came_counted;
-      few = omega (arith, come.2, come.3.count);
-      carries = came_carries;
-      acks = record {
-        ack = ack ∙ ap (acks_if (is_exit item && is_accepted come.3.answer)) (sym (ack_same new mid volume calls));
-        durable = λ h. came_kept (and_both (is_exit item) (is_durable item) (is_accepted come.3.answer) durable h);
+      run = record {
+        calls = come.3.calls;
+        made = came_made;
+        ends = (come.3.answer, came_comes, refl, subst (λ (t : List ℕ). IsPutInPart before t held) come.3.text_is put);
+        counted = came_counted;
+        few = omega (arith, come.2, come.3.count);
+        carries = came_carries;
+        stands = λ h. came_kept (and_both (is_exit item) (is_durable item) (is_accepted come.3.answer) durable h);
       };
+      ack = ack ∙ ap (acks_if (is_exit item && is_accepted come.3.answer)) (sym (ack_same new mid volume calls));
     }
 
   -- the two ends of a line that was served, by the functions of the code
@@ -231,11 +238,14 @@ module _ {D : Type 0} {d : Ghosts D} where
       → new.ack ≡ acks_if durable (ack_now new) → EndEnds result (state_of old) durable → (durable ≡ true → IsDurable new.volume) → DoesEnd old new result
   end_base old new durable r result did calls ack ends kept = record {
     durable = durable;
-    made = flush_made old.volume new.volume r did;
-    ends = ends;
-    counted = calls;
-    carries = carries_call call.Flush old.volume new.volume [] did.endures did.adds (omega arith);
-    acks = record { ack = ack; durable = kept };
+    run = record {
+      made = flush_made old.volume new.volume r did;
+      ends = ends;
+      counted = calls;
+      carries = carries_call call.Flush old.volume new.volume [] did.endures did.adds (omega arith);
+      stands = kept;
+    };
+    ack = ack;
   }
 
   pub end_ok : (old new : Session D d) → Flushed old.volume new.volume (Ok tt) → new.calls ≡ old.calls → new.ack ≡ Some (ack_now new) → DoesEnd old new (Ok answered.Ok)
@@ -243,16 +253,16 @@ module _ {D : Type 0} {d : Ghosts D} where
       end_base old new true (Ok tt) (Ok answered.Ok) did calls ack (Accepted [], flush_says old.volume new.volume (Ok tt) (Accepted []) did refl, refl, refl)
       (λ h. flush_kept old.volume new.volume (Ok tt) (Accepted []) refl refl did)
 
-  pub end_refused : (old new : Session D d) (f : Fault) → Flushed old.volume new.volume (Err f) → new.calls ≡ old.calls → new.ack ≡ None → DoesEnd old new (ended_by f)
-  end_refused old new fault.Failed did calls ack = end_base old new false (Err fault.Failed) (Err stop.Device) did calls ack refl (λ h. absurd (false≢true h))
-  end_refused old new fault.Memory did calls ack = end_base old new false (Err fault.Memory) (Err stop.Memory) did calls ack refl (λ h. absurd (false≢true h))
-  end_refused old new other did calls ack =
+  pub end_refused : (old new : Session D d) (f : Fault) → (f ≡ fault.Failed) ⊎ (f ≡ fault.Worn) → Flushed old.volume new.volume (Err f) → new.calls ≡ old.calls → new.ack ≡ None → DoesEnd old new (ended_by f)
+  end_refused old new fault.Failed may did calls ack = end_base old new false (Err fault.Failed) (Err stop.Device) did calls ack refl (λ h. absurd (false≢true h))
+  end_refused old new fault.Memory may did calls ack = absurd (no_memory may)
+  end_refused old new other may did calls ack =
       end_base old new false (Err other) (Ok answered.Refused) did calls ack
       (Refused (fault_text other), flush_says old.volume new.volume (Err other) (Refused (fault_text other)) did refl, refl, refl) (λ h. absurd (false≢true h))
 
-  pub end_refused_as : (old new : Session D d) (f : Fault) (result : Result Answered SessionFault) → result ≡ ended_by f → Flushed old.volume new.volume (Err f) → new.calls ≡ old.calls → new.ack ≡ None
+  pub end_refused_as : (old new : Session D d) (f : Fault) (result : Result Answered SessionFault) → (f ≡ fault.Failed) ⊎ (f ≡ fault.Worn) → result ≡ ended_by f → Flushed old.volume new.volume (Err f) → new.calls ≡ old.calls → new.ack ≡ None
       → DoesEnd old new result
-  end_refused_as old new f result is did calls ack = subst (λ (r : Result Answered SessionFault). DoesEnd old new r) (sym is) (end_refused old new f did calls ack)
+  end_refused_as old new f result may is did calls ack = subst (λ (r : Result Answered SessionFault). DoesEnd old new r) (sym is) (end_refused old new f may did calls ack)
 
   -- the ends of a line, as the code has them
 
@@ -285,51 +295,49 @@ module _ {D : Type 0} {d : Ghosts D} where
   pub step_line : (item : Item) (old new : Session D d) (before held : Option (List ℕ)) (result : Result Answered SessionFault) (acks later : List Ack)
       → DoesLine item old new before held result → later ≡ acks ++ ack_list new.ack → DoesStep item old new before held result acks later
   step_line item old new before held result acks later does are = record {
-    calls = does.calls;
     durable = does.durable;
-    made = does.made;
-    ends = does.ends;
-    counted = does.counted;
-    few = does.few;
-    carries = does.carries;
-    acks_are = are ∙ ap (λ x. acks ++ x) (ap ack_list does.acks.ack ∙ listed does.durable (ack_now new));
-    stands = does.acks.durable;
+    run = does.run;
+    acks_are = are ∙ ap (λ x. acks ++ x) (ap ack_list does.ack ∙ listed does.durable (ack_now new));
   }
 
   pub step_none : (item : Item) (v : Session D d) (held : Option (List ℕ)) (acks later : List Ack) → later ≡ acks → DoesStep item v v held held (Err stop.Memory) acks later
   step_none item v held acks later are = record {
-    calls = [];
     durable = false;
-    made = made_none (state_of v);
-    ends = (starts_none item (state_of v), refl, refl);
-    counted = refl;
-    few = omega arith;
-    carries = carries_none v.volume;
+    run = record {
+      calls = [];
+      made = made_none (state_of v);
+      ends = (starts_none item (state_of v), refl, refl);
+      counted = refl;
+      few = omega arith;
+      carries = carries_none v.volume;
+      stands = λ h. absurd (false≢true h);
+    };
     acks_are = are ∙ sym (append-nil acks);
-    stands = λ h. absurd (false≢true h);
   }
 
   pub step_end : (old new : Session D d) (result : Result Answered SessionFault) (acks later : List Ack) → DoesEnd old new result → later ≡ acks ++ ack_list new.ack
       → DoesEndStep old new (session_end result) acks later
   step_end old new result acks later does are = record {
+    ended = result;
+    end_is = refl;
     durable = does.durable;
-    made = does.made;
-    ends = ends_over result (state_of old) does.durable does.ends;
-    counted = does.counted;
-    carries = does.carries;
-    acks_are = are ∙ ap (λ x. acks ++ x) (ap ack_list does.acks.ack ∙ listed does.durable (ack_now new));
-    stands = does.acks.durable;
+    run = does.run;
+    acks_are = are ∙ ap (λ x. acks ++ x) (ap ack_list does.ack ∙ listed does.durable (ack_now new));
   }
 
-  pub step_end_none : (v : Session D d) (end : End) (acks later : List Ack) → EndsOver end (state_of v) false → later ≡ acks → DoesEndStep v v end acks later
-  step_end_none v end acks later ends are = record {
+  pub step_end_none : (v : Session D d) (acks later : List Ack) → later ≡ acks → DoesEndStep v v ends.Memory acks later
+  step_end_none v acks later are = record {
+    ended = Err stop.Memory;
+    end_is = refl;
     durable = false;
-    made = made_none (state_of v);
-    ends = ends;
-    counted = refl;
-    carries = carries_none v.volume;
+    run = record {
+      made = made_none (state_of v);
+      ends = refl;
+      counted = refl;
+      carries = carries_none v.volume;
+      stands = λ h. absurd (false≢true h);
+    };
     acks_are = are ∙ sym (append-nil acks);
-    stands = λ h. absurd (false≢true h);
   }
 
   pub step_line_as : (item : Item) (old new : Session D d) (before held : Option (List ℕ)) (result : Result Answered SessionFault) (acks room later : List Ack) (ack : Option Ack)

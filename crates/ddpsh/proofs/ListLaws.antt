@@ -221,6 +221,14 @@ name_of v last found r is own = ⊎_elim
     (λ memory. let e : reply.Name found ≡ reply.Refused fault.Memory = sym (ap name_reply is) ∙ memory.0 in absurd (let no : ⊥ = cc in no))
     own.own
 
+-- a name is refused for want of memory alone
+pub name_fault : (v : Volume) (last : Option (List ℕ)) (r : Result (Option (List ℕ)) Fault) (f : Fault) → r ≡ Err f
+    → IsOwnOrMemory v (call.Next last) (name_reply r) v → f ≡ fault.Memory
+name_fault v last r f is own = ⊎_elim
+    (λ same. let e : reply.Refused f ≡ reply.Name (next_name last v) = sym (ap name_reply is) ∙ same in absurd (let no : ⊥ = cc in no))
+    (λ memory. let e : reply.Refused f ≡ reply.Refused fault.Memory = sym (ap name_reply is) ∙ memory.0 in (let h : f ≡ fault.Memory = cc in h))
+    own.own
+
 -- the length that is given is that of the file
 size_of : (v : Volume) (name : List ℕ) (r : Result ℕ Fault) (size : ℕ) → length_reply r ≡ own_reply (plain v (call.Stat name))
     → plain v (call.Stat name) ≡ Ok (reply.Length size, v) → r ≡ Ok size

@@ -1,5 +1,5 @@
 -- From one state a script has one run, and an image has one state.
-use Rattle.std.proofs.Common.{◌≡◌, ◌-◌, ℕ, true, List, [], ◌∷◌, length, take, replicate, codes, Some, Ok, refl, sym, ◌∙◌, ap, subst, arith}
+use Rattle.std.proofs.Common.{◌≡◌, ◌+◌, ◌-◌, ℕ, true, List, [], ◌∷◌, length, take, replicate, codes, Some, Ok, refl, sym, ◌∙◌, ap, subst, arith}
 use Rattle.meta_log.specs.Meta.{epoch_in, place_in}
 use Rattle.plain_volume.specs.declared.call.Call.{Call}
 use Rattle.plain_volume.specs.declared.call.Call.TheVariants as call
@@ -17,7 +17,7 @@ use Rattle.ddpsh.specs.States.{State, reply_in}
 use Rattle.script_items.specs.Script.{Item, Bad, Bare, Paid, Cut, Spoilt, BeginsWith, behind_item}
 use Rattle.answer_text.specs.Answers.{Answer, Nothing, Refused, refusal_text, said}
 use Rattle.ddpsh.specs.Answers.{OneCall, NoCall, Lists, Unmounts, Serves, Comes}
-use Rattle.ddpsh.specs.Runs.{Entry, items_of, AreAnswered, left_by}
+use Rattle.ddpsh.specs.Runs.{Entry, items_of, AreAnswered, state_behind}
 use Rattle.ddpsh.specs.Laws.{ItemsHaveOneAnswer, ScriptsHaveOneRun, ImagesFixStates}
 
 -- a reply that prints an answer tells the state that it leaves
@@ -120,7 +120,7 @@ entries_same (e ∷ es) (f ∷ others) v script h k a b =
 pub script_same : ScriptsHaveOneRun
 script_same opening script es others now later x y =
     let same = entries_same es others opening script x.items y.items x.answers y.answers in
-    (same, x.state ∙ (ap (left_by opening) same ∙ sym y.state))
+    (same, x.state ∙ (ap (state_behind opening) same ∙ sym y.state))
 
 -- ---- the first state
 
@@ -134,7 +134,7 @@ one_state image s t one two =
     one.pending
     ∙ ((λ i. settled (epoch_in journal_at (half_bytes (clusters i)) image)
     (place_in journal_at (half_bytes (clusters i)) image)
-    (data_clusters (clusters i) - length ((inside i).blocks)))
+    (data_clusters (clusters i) - (length ((inside i).blocks) + length ((inside i).pages))))
     ∙ sym two.pending) in
     λ i. record { clusters = clusters i; inside = inside i; pending = waits i }
 

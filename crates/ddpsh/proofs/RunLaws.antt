@@ -6,13 +6,13 @@ use Rattle.plain_volume.specs.declared.call.Call.{Call}
 use Rattle.plain_volume.specs.declared.call.Reply.{Reply}
 use Rattle.std.specs.List.{list_any}
 use Rattle.volume_inside.specs.Inside.{Inside}
-use Rattle.volume_core.specs.States.{volume_in}
+use Rattle.volume_core.specs.States.{plain_in}
 use Rattle.volume_core.specs.Moves.{inside_after}
 use Rattle.ddpsh.specs.States.{State}
 use Rattle.script_items.specs.Script.{first_item, behind_item, BeginsWith}
 use Rattle.answer_text.specs.Answers.{Answer, text_of, is_refused, is_answered}
 use Rattle.ddpsh.specs.Answers.{Comes}
-use Rattle.ddpsh.specs.Runs.{Entry, items_of, calls_of, output_of, AreAnswered, left_by, some_refused, answered_lines, acknowledges, acknowledged, one_if, lets_go, StayOpen, insides_after, Made, Served}
+use Rattle.ddpsh.specs.Runs.{Entry, items_of, calls_of, output_of, AreAnswered, state_behind, some_refused, answered_lines, acknowledges, acknowledged, one_if, lets_go, StayOpen, insides_after, Made, Served}
 
 pub replays : (v : Volume) (first second : List (Call × Reply)) → replay v (first ++ second) ≡ replay (replay v first) second
 replays v [] second = refl
@@ -31,8 +31,8 @@ made_none v = record { legal = tt; now = refl; inside = refl; clusters = refl }
 
 pub made_then : (u v w : State) (first second : List (Call × Reply)) → Made u v first → Made v w second → Made u w (first ++ second)
 made_then u v w first second one two = record {
-  legal = legal_then (volume_in u) first second one.legal (subst (λ (x : Volume). Legal x second) one.now two.legal);
-  now = two.now ∙ (ap (λ x. replay x second) one.now ∙ sym (replays (volume_in u) first second));
+  legal = legal_then (plain_in u) first second one.legal (subst (λ (x : Volume). Legal x second) one.now two.legal);
+  now = two.now ∙ (ap (λ x. replay x second) one.now ∙ sym (replays (plain_in u) first second));
   inside = two.inside ∙ (ap (insides_after second) one.inside ∙ sym (insides_split u.inside first second));
   clusters = two.clusters ∙ one.clusters;
 }
@@ -80,11 +80,11 @@ pub open_more : (es : List Entry) (e : Entry) → StayOpen es → lets_go e ≡ 
 open_more [] e so last = or_false (lets_go e) false last refl
 open_more (d ∷ es) e so last = open_split (lets_go d) (list_any lets_go es) (list_any lets_go (es ++ e ∷ [])) so (λ h. open_more es e h last)
 
-answered_more : (v : State) (es : List Entry) (e : Entry) → AreAnswered v es → Comes e.item (left_by v es) e.calls e.answer e.after → AreAnswered v (es ++ e ∷ [])
+answered_more : (v : State) (es : List Entry) (e : Entry) → AreAnswered v es → Comes e.item (state_behind v es) e.calls e.answer e.after → AreAnswered v (es ++ e ∷ [])
 answered_more v [] e known h = (h, tt)
 answered_more v (d ∷ es) e known h = (known.0, answered_more d.after es e known.1 h)
 
-left_more : (v : State) (es : List Entry) (e : Entry) → e.after ≡ left_by v (es ++ e ∷ [])
+left_more : (v : State) (es : List Entry) (e : Entry) → e.after ≡ state_behind v (es ++ e ∷ [])
 left_more v [] e = refl
 left_more v (d ∷ es) e = left_more d.after es e
 
@@ -100,7 +100,7 @@ pub one_more : (v now w : State) (script rest : List ℕ) (es : List Entry) (cal
     → Served v script (es ++ (record { item = first_item rest; calls = calls; answer = answer; after = w }) ∷ []) (behind_item rest) w
 one_more v now w script rest es calls answer run some comes made =
     let e : Entry = record { item = first_item rest; calls = calls; answer = answer; after = w } in
-    let here : Comes (first_item rest) (left_by v es) calls answer w = subst (λ (x : State). Comes (first_item rest) x calls answer w) run.state comes in
+    let here : Comes (first_item rest) (state_behind v es) calls answer w = subst (λ (x : State). Comes (first_item rest) x calls answer w) run.state comes in
     record {
       items = begins_more es e script rest run.items some refl;
       answers = answered_more v es e run.answers here;

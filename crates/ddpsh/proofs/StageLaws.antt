@@ -1,5 +1,5 @@
 -- The loop over items.
-use Rattle.std.proofs.Common.{◌≡◌, ◌⊎◌, inl, inr, ◌≤◌, ◌<◌, ◌+◌, ◌*◌, ◌^◌, ◌||◌, ◌&&◌, ℕ, zero, suc, Bool, true, false, cond, List, [], ◌∷◌, ◌++◌, length, map, Option, Some, Result, Ok, Err, refl, sym, ◌∙◌, ap, subst, arith, append-nil, length-append}
+use Rattle.std.proofs.Common.{◌≡◌, ◌≤◌, ◌<◌, ◌+◌, ◌*◌, ◌^◌, ◌||◌, ◌&&◌, ℕ, zero, suc, Bool, true, false, cond, List, [], ◌∷◌, ◌++◌, length, map, Option, Some, Result, Ok, Err, refl, sym, ◌∙◌, ap, subst, arith, append-nil, length-append}
 use Rattle.std.proofs.lemmas.Bool.{false≢true}
 use Rattle.std.proofs.lemmas.List.{map-append}
 use Rattle.vdisk.specs.declared.disk.Disk.{Ghosts}
@@ -22,8 +22,8 @@ use Rattle.volume_core.specs.Volumes.{disk_of, view_now, stopped, IsKept}
 use Rattle.ddpsh.specs.Bounds.{IsFresh, WantsAreSpent}
 use Rattle.ddpsh.specs.Served.{IsDurable, IsStored}
 use Rattle.ddpsh.specs.Crashes.{LastsFrom, Carries}
-use Rattle.ddpsh.specs.Sessions.{state_of, ack_now, counted_on, is_last, LineEnds}
-use Rattle.ddpsh.specs.Steps.{acks_when, EndsOver, DoesStep, DoesEndStep, Spending, Keeping, Stage, SessionRun}
+use Rattle.ddpsh.specs.Sessions.{state_of, ack_now, counted_up, is_last, LineEnds, EndEnds, EndRun}
+use Rattle.ddpsh.specs.Steps.{acks_when, session_end, DoesStep, DoesEndStep, Spending, Keeping, Stage, SessionRun}
 use Rattle.ddpsh.specs.declared.acks.Ack.{Ack}
 use Rattle.script_items.specs.declared.input.Input.{Input}
 use Rattle.script_items.specs.declared.input.ScriptFault.{ScriptFault}
@@ -94,7 +94,7 @@ acks_map acks true ack = map-append (λ a. a.calls) acks (ack ∷ [])
 acks_map acks false ack = map-append (λ a. a.calls) acks []
 
 -- a count of calls does not come to the end of its type
-counted_well : (count now more n taken : ℕ) → now ≡ counted_on count more → count ≡ n → n ≤ 1048576 * taken → taken ≤ 2 ^ 40 → more ≤ 1048576 → now ≡ n + more
+counted_well : (count now more n taken : ℕ) → now ≡ counted_up count more → count ≡ n → n ≤ 1048576 * taken → taken ≤ 2 ^ 40 → more ≤ 1048576 → now ≡ n + more
 counted_well count now zero n taken is same few within small = omega (arith, is, same)
 counted_well count now (suc more) n taken is same few within small = omega (arith, is, same, few, within, small)
 
@@ -119,16 +119,15 @@ module _ {D : Type 0} {d : Ghosts D} where
   stop_stored stop.Memory w durable n stands h = absurd h
   stop_stored stop.Sink w durable n stands h = stored_if w durable n stands h
 
-  over_stored : (end : End) (w : Session D d) (durable : Bool) (n : ℕ) (v : State) → (durable ≡ true → IsDurable w.volume) → EndsOver end v durable → HasLetGo end (one_if durable n) → IsStored w.volume
-  over_stored ends.Over w durable n v stands ends h = (stands ends.3).stored
-  over_stored ends.Worn w durable n v stands ends h = absurd h
-  over_stored ends.Exit w durable n v stands ends h = absurd ends
-  over_stored ends.Device w durable n v stands ends h = absurd h
-  over_stored ends.Memory w durable n v stands ends h = absurd h
-  over_stored ends.Sink w durable n v stands ends h = absurd ends
-  over_stored ends.Source w durable n v stands ends h = absurd h
-  over_stored ends.TooLong w durable n v stands ends h = absurd h
-  over_stored (ends.Refused fault) w durable n v stands ends h = absurd h
+  over_stored : (ended : Result Answered SessionFault) (w : Session D d) (durable : Bool) (n : ℕ) (v : State) → (durable ≡ true → IsDurable w.volume) → EndEnds ended v durable
+      → HasLetGo (session_end ended) (one_if durable n) → IsStored w.volume
+  over_stored (Ok answered.Ok) w durable n v stands ends h = (stands ends.3).stored
+  over_stored (Ok answered.Refused) w durable n v stands ends h = absurd h
+  over_stored (Ok answered.Silent) w durable n v stands ends h = absurd ends
+  over_stored (Ok answered.Exit) w durable n v stands ends h = absurd ends
+  over_stored (Err stop.Device) w durable n v stands ends h = absurd h
+  over_stored (Err stop.Memory) w durable n v stands ends h = absurd h
+  over_stored (Err stop.Sink) w durable n v stands ends h = absurd ends
 
   -- what a line, or the end of a script, adds to what is told of crashes
   module _ (first old new : Session D d) (calls more : List (Call × Reply)) (acks later : List Ack) (durable : Bool)
@@ -178,7 +177,7 @@ module _ {D : Type 0} {d : Ghosts D} where
   module _ (first now w : Session D d) (s : List ℕ) (input later : Input) (source then before held after : Option (List ℕ)) (refused : Bool) (lines : ℕ) (acks more : List Ack)
       (line payload : List ℕ) (item : Item) (so : Stage first now s input source before held refused lines acks)
       (is : item ≡ first_item so.rest) (few : taken input ≤ 2 ^ 40) where
-    count_more : (calls : List (Call × Reply)) → w.calls ≡ counted_on now.calls (length calls) → length calls ≤ 1048576 → w.calls ≡ length (calls_of so.entries) + length calls
+    count_more : (calls : List (Call × Reply)) → w.calls ≡ counted_up now.calls (length calls) → length calls ≤ 1048576 → w.calls ≡ length (calls_of so.entries) + length calls
     count_more calls counted small = counted_well now.calls w.calls (length calls) (length (calls_of so.entries)) (taken input) counted so.counted so.few few small
 
     count_joined : (calls : List (Call × Reply)) → w.calls ≡ length (calls_of so.entries) + length calls → w.calls ≡ length (calls_of so.entries ++ calls)
@@ -238,48 +237,48 @@ module _ {D : Type 0} {d : Ghosts D} where
         → WantsAreSpent w.volume → DoesStep item now w held after (Ok a) acks more
         → Stage first w s later then before after (refused || kind_refused a) (lines + kind_counted a) more
     stage_more a read grows going runs law step =
-        let ends = item_ends (Ok a) step.calls step.durable step.ends in
-        let count : w.calls ≡ length (calls_of so.entries) + length step.calls = count_more step.calls step.counted step.few in
-        let e : Entry = entry_of (first_item so.rest) step.calls ends.0 (state_of w) in
+        let ends = item_ends (Ok a) step.run.calls step.durable step.run.ends in
+        let count : w.calls ≡ length (calls_of so.entries) + length step.run.calls = count_more step.run.calls step.run.counted step.run.few in
+        let e : Entry = entry_of (first_item so.rest) step.run.calls ends.0 (state_of w) in
         let es : List Entry = so.entries ++ e ∷ [] in
-        let joined : calls_of es ≡ calls_of so.entries ++ step.calls =
-        calls_so step.calls step.durable a ends.0 ends.1 ends.2 ends.3 ends.4 step.made count step.acks_are read in
+        let joined : calls_of es ≡ calls_of so.entries ++ step.run.calls =
+        calls_so step.run.calls step.durable a ends.0 ends.1 ends.2 ends.3 ends.4 step.run.made count step.acks_are read in
         record {
           entries = es;
           rest = behind_item so.rest;
-          so = answered_so step.calls step.durable a ends.0 ends.1 ends.2 ends.3 ends.4 step.made count step.acks_are read;
+          so = answered_so step.run.calls step.durable a ends.0 ends.1 ends.2 ends.3 ends.4 step.run.made count step.acks_are read;
           left = read.left refl;
-          open_yet = open_more so.entries (entry_of (first_item so.rest) step.calls ends.0 (state_of w)) so.open_yet
-              (goes_so step.calls step.durable a ends.0 ends.1 ends.2 ends.3 ends.4 step.made count step.acks_are read false going);
-          acks_are = acks_so step.calls step.durable a ends.0 ends.1 ends.2 ends.3 ends.4 step.made count step.acks_are read;
-          counted = count_joined step.calls count ∙ ap length (sym joined);
-          few = omega (arith, ap length joined, length-append (calls_of so.entries) step.calls, so.few, step.few, grows);
+          open_yet = open_more so.entries (entry_of (first_item so.rest) step.run.calls ends.0 (state_of w)) so.open_yet
+              (goes_so step.run.calls step.durable a ends.0 ends.1 ends.2 ends.3 ends.4 step.run.made count step.acks_are read false going);
+          acks_are = acks_so step.run.calls step.durable a ends.0 ends.1 ends.2 ends.3 ends.4 step.run.made count step.acks_are read;
+          counted = count_joined step.run.calls count ∙ ap length (sym joined);
+          few = omega (arith, ap length joined, length-append (calls_of so.entries) step.run.calls, so.few, step.run.few, grows);
           short = omega (arith, so.short, grows, length-append so.entries (e ∷ []));
           lasts = subst (λ (c : List (Call × Reply)). LastsFrom (view_now first.volume) (disk_of first.volume) (disk_of w.volume) c more) (sym joined)
-              (lasts_so step.calls step.durable step.made step.carries count step.stands step.acks_are);
+              (lasts_so step.run.calls step.durable step.run.made step.run.carries count step.run.stands step.acks_are);
           keeping = subst (λ (c : List (Call × Reply)). Keeping (view_now first.volume) w c more) (sym joined)
-              (keeping_so step.calls step.durable step.made step.carries count step.stands step.acks_are runs);
-          spending = λ n fresh. spending_so n e refl step.carries runs law fresh;
+              (keeping_so step.run.calls step.durable step.run.made step.run.carries count step.run.stands step.acks_are runs);
+          spending = λ n fresh. spending_so n e refl step.run.carries runs law fresh;
         }
 
     pub stage_exit : (a : Answered) → a ≡ answered.Exit → IsItem so.rest true line payload later then (length s)
         → stopped w.volume ≡ false → WantsAreSpent w.volume → DoesStep item now w held after (Ok a) acks more
         → SessionRun first w s before after (record { end = ends.Exit; refused = refused || kind_refused a; lines = lines + kind_counted a }) more
     stage_exit a exits read runs law step =
-        let ends = item_ends (Ok a) step.calls step.durable step.ends in
-        let count : w.calls ≡ length (calls_of so.entries) + length step.calls = count_more step.calls step.counted step.few in
-        let e : Entry = entry_of (first_item so.rest) step.calls ends.0 (state_of w) in
+        let ends = item_ends (Ok a) step.run.calls step.durable step.run.ends in
+        let count : w.calls ≡ length (calls_of so.entries) + length step.run.calls = count_more step.run.calls step.run.counted step.run.few in
+        let e : Entry = entry_of (first_item so.rest) step.run.calls ends.0 (state_of w) in
         let es : List Entry = so.entries ++ e ∷ [] in
-        let joined : calls_of es ≡ calls_of so.entries ++ step.calls =
-        calls_so step.calls step.durable a ends.0 ends.1 ends.2 ends.3 ends.4 step.made count step.acks_are read in
+        let joined : calls_of es ≡ calls_of so.entries ++ step.run.calls =
+        calls_so step.run.calls step.durable a ends.0 ends.1 ends.2 ends.3 ends.4 step.run.made count step.acks_are read in
         record {
-          calls = calls_of so.entries ++ step.calls;
+          calls = calls_of so.entries ++ step.run.calls;
           run = record {
             entries = es;
             rest = behind_item so.rest;
             stage = state_of w;
             last = record { calls = []; acks = []; before = after; held = after };
-            so = answered_so step.calls step.durable a ends.0 ends.1 ends.2 ends.3 ends.4 step.made count step.acks_are read;
+            so = answered_so step.run.calls step.durable a ends.0 ends.1 ends.2 ends.3 ends.4 step.run.made count step.acks_are read;
             made = made_none (state_of w);
             ending = (refl, refl, refl);
             held_is = refl;
@@ -288,17 +287,17 @@ module _ {D : Type 0} {d : Ghosts D} where
               e,
               refl,
               so.open_yet,
-              goes_so step.calls step.durable a ends.0 ends.1 ends.2 ends.3 ends.4 step.made count step.acks_are read true (ap is_last exits),
+              goes_so step.run.calls step.durable a ends.0 ends.1 ends.2 ends.3 ends.4 step.run.made count step.acks_are read true (ap is_last exits),
             );
             calls_are = sym joined ∙ sym (append-nil (calls_of es));
-            acks_are = acks_so step.calls step.durable a ends.0 ends.1 ends.2 ends.3 ends.4 step.made count step.acks_are read ∙ sym (append-nil (acknowledged 0 es));
+            acks_are = acks_so step.run.calls step.durable a ends.0 ends.1 ends.2 ends.3 ends.4 step.run.made count step.acks_are read ∙ sym (append-nil (acknowledged 0 es));
           };
           stored = λ h.
-              let gone : lets_go (entry_of (first_item so.rest) step.calls ends.0 (state_of w)) ≡ true =
-              goes_so step.calls step.durable a ends.0 ends.1 ends.2 ends.3 ends.4 step.made count step.acks_are read true (ap is_last exits) in
-              (step.stands (ends.3 ∙ exit_acknowledges (first_item so.rest) ends.0 gone)).stored;
-          lasts = lasts_so step.calls step.durable step.made step.carries count step.stands step.acks_are;
-          bounded = λ n fresh. (spending_so n e refl step.carries runs law fresh).bounded;
+              let gone : lets_go (entry_of (first_item so.rest) step.run.calls ends.0 (state_of w)) ≡ true =
+              goes_so step.run.calls step.durable a ends.0 ends.1 ends.2 ends.3 ends.4 step.run.made count step.acks_are read true (ap is_last exits) in
+              (step.run.stands (ends.3 ∙ exit_acknowledges (first_item so.rest) ends.0 gone)).stored;
+          lasts = lasts_so step.run.calls step.durable step.run.made step.run.carries count step.run.stands step.acks_are;
+          bounded = λ n fresh. (spending_so n e refl step.run.carries runs law fresh).bounded;
         }
 
     stopped_ends : (f : SessionFault) (calls : List (Call × Reply)) (durable : Bool) → LineEnds (Err f) (first_item so.rest) (state_of now) (state_of w) calls durable held after
@@ -320,25 +319,25 @@ module _ {D : Type 0} {d : Ghosts D} where
 
     pub stage_stop : (f : SessionFault) → DoesStep item now w held after (Err f) acks more → SessionRun first w s before after (record { end = stop_end f; refused = refused; lines = lines }) more
     stage_stop f step =
-        let ends = item_ends (Err f) step.calls step.durable step.ends in
-        let count : w.calls ≡ length (calls_of so.entries) + length step.calls = count_more step.calls step.counted step.few in
+        let ends = item_ends (Err f) step.run.calls step.durable step.run.ends in
+        let count : w.calls ≡ length (calls_of so.entries) + length step.run.calls = count_more step.run.calls step.run.counted step.run.few in
         record {
-          calls = calls_of so.entries ++ step.calls;
+          calls = calls_of so.entries ++ step.run.calls;
           run = record {
             entries = so.entries;
             rest = so.rest;
             stage = state_of now;
-            last = record { calls = step.calls; acks = one_if step.durable w.calls; before = held; held = after };
+            last = record { calls = step.run.calls; acks = one_if step.durable w.calls; before = held; held = after };
             so = so.so;
-            made = step.made;
-            ending = stopped_ends f step.calls step.durable ends count;
+            made = step.run.made;
+            ending = stopped_ends f step.run.calls step.durable ends count;
             held_is = refl;
             goes = stays_open f;
             calls_are = refl;
             acks_are = ap (map (λ (x : Ack). x.calls)) step.acks_are ∙ (acks_map acks step.durable (ack_now w) ∙ ap (λ x. x ++ one_if step.durable w.calls) so.acks_are);
           };
-          stored = stop_stored f w step.durable w.calls step.stands;
-          lasts = lasts_so step.calls step.durable step.made step.carries count step.stands step.acks_are;
+          stored = stop_stored f w step.durable w.calls step.run.stands;
+          lasts = lasts_so step.run.calls step.durable step.run.made step.run.carries count step.run.stands step.acks_are;
           bounded = λ n fresh. (so.spending n fresh).bounded;
         }
 
@@ -381,9 +380,9 @@ module _ {D : Type 0} {d : Ghosts D} where
       bounded = λ n fresh. (so.spending n fresh).bounded;
     }
 
-    over_ends : (w : Session D d) (end : End) (durable : Bool) → so.rest ≡ [] → w.calls ≡ length (calls_of so.entries) → EndsOver end (state_of now) durable
-        → Ends end so.rest (state_of now) (state_of w) (length (calls_of so.entries)) (record { calls = []; acks = one_if durable w.calls; before = held; held = held })
-    over_ends w ends.Over durable none count ends = record {
+    over_ends : (w : Session D d) (ended : Result Answered SessionFault) (durable : Bool) → so.rest ≡ [] → w.calls ≡ length (calls_of so.entries) → EndEnds ended (state_of now) durable
+        → Ends (session_end ended) so.rest (state_of now) (state_of w) (length (calls_of so.entries)) (record { calls = []; acks = one_if durable w.calls; before = held; held = held })
+    over_ends w (Ok answered.Ok) durable none count ends = record {
       read = none;
       answer = ends.0;
       flushed = ends.1;
@@ -392,41 +391,34 @@ module _ {D : Type 0} {d : Ghosts D} where
       acks = ap (λ b. one_if b w.calls) ends.3 ∙ ap (λ k. k ∷ []) count;
       held = refl;
     }
-    over_ends w ends.Worn durable none count ends = record {
+    over_ends w (Ok answered.Refused) durable none count ends = record {
       read = none;
       answer = ends.0;
       flushed = ends.1;
       refused = ends.2;
       none = (refl, ap (λ b. one_if b w.calls) ends.3, refl);
     }
-    over_ends w ends.Device durable none count ends = record { starts = starts_none (first_item so.rest) (state_of now); acks = ap (λ b. one_if b w.calls) ends; held = refl }
-    over_ends w ends.Memory durable none count ends = record { starts = starts_none (first_item so.rest) (state_of now); acks = ap (λ b. one_if b w.calls) ends; held = refl }
-    over_ends w ends.Exit durable none count ends = absurd ends
-    over_ends w ends.Sink durable none count ends = absurd ends
-    over_ends w ends.Source durable none count ends = absurd ends
-    over_ends w ends.TooLong durable none count ends = absurd ends
-    over_ends w (ends.Refused fault) durable none count ends = absurd ends
+    over_ends w (Ok answered.Silent) durable none count ends = absurd ends
+    over_ends w (Ok answered.Exit) durable none count ends = absurd ends
+    over_ends w (Err stop.Device) durable none count ends =
+        record { starts = starts_none (first_item so.rest) (state_of now); acks = ap (λ b. one_if b w.calls) ends; held = refl }
+    over_ends w (Err stop.Memory) durable none count ends =
+        record { starts = starts_none (first_item so.rest) (state_of now); acks = ap (λ b. one_if b w.calls) ends; held = refl }
+    over_ends w (Err stop.Sink) durable none count ends = absurd ends
 
-    over_open : (end : End) → EndsOver end (state_of now) true ⊎ EndsOver end (state_of now) false → StaysOpenUntil end so.entries
-    over_open ends.Over h = so.open_yet
-    over_open ends.Worn h = so.open_yet
-    over_open ends.Device h = so.open_yet
-    over_open ends.Memory h = so.open_yet
-    over_open ends.Exit h = absurd (elim h [ inl x ↦ x | inr x ↦ x ])
-    over_open ends.Sink h = so.open_yet
-    over_open ends.Source h = so.open_yet
-    over_open ends.TooLong h = so.open_yet
-    over_open (ends.Refused fault) h = so.open_yet
+    over_open : (ended : Result Answered SessionFault) (durable : Bool) → EndEnds ended (state_of now) durable → StaysOpenUntil (session_end ended) so.entries
+    over_open (Ok answered.Ok) durable ends = so.open_yet
+    over_open (Ok answered.Refused) durable ends = so.open_yet
+    over_open (Ok answered.Silent) durable ends = absurd ends
+    over_open (Ok answered.Exit) durable ends = absurd ends
+    over_open (Err stop.Device) durable ends = so.open_yet
+    over_open (Err stop.Memory) durable ends = so.open_yet
+    over_open (Err stop.Sink) durable ends = absurd ends
 
-    either_over : (end : End) (durable : Bool) → EndsOver end (state_of now) durable → EndsOver end (state_of now) true ⊎ EndsOver end (state_of now) false
-    either_over end true h = inl h
-    either_over end false h = inr h
-
-    -- the script is at its end
-    pub stage_over : (w : Session D d) (later : Input) (then : Option (List ℕ)) (line payload : List ℕ) (end : End) (more : List Ack) → IsItem so.rest false line payload later then (length s)
-        → DoesEndStep now w end acks more → SessionRun first w s before held (record { end = end; refused = refused; lines = lines }) more
-    stage_over w later then line payload end more read step =
-        let count : w.calls ≡ length (calls_of so.entries) = step.counted ∙ so.counted in
+    stage_ended : (w : Session D d) (ended : Result Answered SessionFault) (durable : Bool) (more : List Ack) → so.rest ≡ [] → EndRun now w ended durable → more ≡ acks ++ acks_when durable (ack_now w)
+        → SessionRun first w s before held (record { end = session_end ended; refused = refused; lines = lines }) more
+    stage_ended w ended durable more none run are =
+        let count : w.calls ≡ length (calls_of so.entries) = run.counted ∙ so.counted in
         let joined : w.calls ≡ length (calls_of so.entries ++ []) = count ∙ ap length (sym (append-nil (calls_of so.entries))) in
         record {
           calls = calls_of so.entries ++ [];
@@ -434,19 +426,26 @@ module _ {D : Type 0} {d : Ghosts D} where
             entries = so.entries;
             rest = so.rest;
             stage = state_of now;
-            last = record { calls = []; acks = one_if step.durable w.calls; before = held; held = held };
+            last = record { calls = []; acks = one_if durable w.calls; before = held; held = held };
             so = so.so;
-            made = step.made;
-            ending = over_ends w end step.durable (empty so.rest read.some) count step.ends;
+            made = run.made;
+            ending = over_ends w ended durable none count run.ends;
             held_is = refl;
-            goes = over_open end (either_over end step.durable step.ends);
+            goes = over_open ended durable run.ends;
             calls_are = refl;
-            acks_are = ap (map (λ (x : Ack). x.calls)) step.acks_are ∙ (acks_map acks step.durable (ack_now w) ∙ ap (λ x. x ++ one_if step.durable w.calls) so.acks_are);
+            acks_are = ap (map (λ (x : Ack). x.calls)) are ∙ (acks_map acks durable (ack_now w) ∙ ap (λ x. x ++ one_if durable w.calls) so.acks_are);
           };
-          stored = over_stored end w step.durable w.calls (state_of now) step.stands step.ends;
-          lasts = step_lasts first now w (calls_of so.entries) [] acks more step.durable so.so.served.made step.made step.carries joined step.stands step.acks_are so.lasts so.keeping;
+          stored = over_stored ended w durable w.calls (state_of now) run.stands run.ends;
+          lasts = step_lasts first now w (calls_of so.entries) [] acks more durable so.so.served.made run.made run.carries joined run.stands are so.lasts so.keeping;
           bounded = λ n fresh. (so.spending n fresh).bounded;
         }
+
+    -- the script is at its end
+    pub stage_over : (w : Session D d) (later : Input) (then : Option (List ℕ)) (line payload : List ℕ) (end : End) (more : List Ack) → IsItem so.rest false line payload later then (length s)
+        → DoesEndStep now w end acks more → SessionRun first w s before held (record { end = end; refused = refused; lines = lines }) more
+    stage_over w later then line payload end more read step =
+        subst (λ (e : End). SessionRun first w s before held (record { end = e; refused = refused; lines = lines }) more) (sym step.end_is)
+        (stage_ended w step.ended step.durable more (empty so.rest read.some) step.run step.acks_are)
 
   -- memory was wanting before the script was read
   pub stage_none : (v : Session D d) (s : List ℕ) (before : Option (List ℕ)) → WantsAreSpent v.volume

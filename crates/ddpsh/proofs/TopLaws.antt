@@ -6,14 +6,14 @@ use Rattle.meta_log.specs.Opened.{IsOnlyRead}
 use Rattle.plain_volume.specs.Volume.{Volume}
 use Rattle.plain_volume.specs.declared.call.Call.{Call}
 use Rattle.plain_volume.specs.declared.call.Reply.{Reply}
-use Rattle.volume_core.specs.States.{volume_in, IsStateOf}
+use Rattle.volume_core.specs.States.{plain_in, IsStateOf}
 use Rattle.ddpsh.specs.States.{State}
 use Rattle.volume_core.specs.Volumes.{disk_of, device_of, view_now, IsKept}
 use Rattle.ddpsh.specs.Bounds.{Bounded, IsFresh}
 use Rattle.ddpsh.specs.Crashes.{Mounts, LastsFrom}
 use Rattle.vdisk.specs.Causes.{Rose}
 use Rattle.volume_inside.specs.declared.mount_fault.MountFault.{MountFault}
-use Rattle.ddpsh.specs.Opens.{Opens, IsRefusal, is_reason}
+use Rattle.ddpsh.specs.Opens.{Opens, IsOpeningFault, is_reason}
 use Rattle.ddpsh.specs.Served.{volume_state, IsStored}
 use Rattle.ddpsh.specs.Sessions.{state_of}
 use Rattle.ddpsh.specs.Steps.{SessionRun}
@@ -42,7 +42,7 @@ first_left old first w read only mounts c left =
     let leaves : old.may_leave c = ⊎_elim (λ was. old.only_now c was) (λ now. now) (read.keeps.adds.since old.moment c (omega arith) left) in
     subst (λ (x : List ℕ). Mounts w x) (sym (only c leaves)) mounts
 
-mount_opens : (command : Command) (image : List ℕ) (s : State) → command ≡ Mount → Opens command image s → Mounts (volume_in s) image
+mount_opens : (command : Command) (image : List ℕ) (s : State) → command ≡ Mount → Opens command image s → Mounts (plain_in s) image
 mount_opens command image s is opens =
     let of : IsStateOf image s = subst (λ (x : Command). Opens x image s) is opens in
     record { inside = s.inside; has = of.inside; is = refl }
@@ -145,10 +145,10 @@ run_lent {D = D} state command other old disk back s before held faults then out
     (subst (λ (k : Command). IsRun k old (state back) s before held faults then outcome) asked run)
 
 pub refused_lent : {D : Type 0} (state : D → DiskState) (command other : Command) (old : DiskState) (disk back : D) → command ≡ other → disk ≡ back
-    → (fault : MountFault) × IsRefusal command old (state back) fault × (is_reason fault ≡ true)
-    → (fault : MountFault) × IsRefusal other old (state disk) fault × (is_reason fault ≡ true)
+    → (fault : MountFault) × IsOpeningFault command old (state back) fault × (is_reason fault ≡ true)
+    → (fault : MountFault) × IsOpeningFault other old (state disk) fault × (is_reason fault ≡ true)
 refused_lent {D = D} state command other old disk back asked same is =
-    (is.0, subst (λ (x : D). IsRefusal other old (state x) is.0) (sym same) (subst (λ (k : Command). IsRefusal k old (state back) is.0) asked is.1), is.2)
+    (is.0, subst (λ (x : D). IsOpeningFault other old (state x) is.0) (sym same) (subst (λ (k : Command). IsOpeningFault k old (state back) is.0) asked is.1), is.2)
 
 pub rose_lent : {D : Type 0} (state : D → DiskState) (before : ℕ) (disk back : D) (P : Type 0) → disk ≡ back → Rose before (state back).faults ⊎ P → Rose before (state disk).faults ⊎ P
 rose_lent {D = D} state before disk back P same is = subst (λ (x : D). Rose before (state x).faults ⊎ P) (sym same) is

@@ -7,7 +7,7 @@ use Rattle.plain_volume.specs.declared.call.Call.TheVariants as call
 use Rattle.plain_volume.specs.declared.call.Reply.{Reply}
 use Rattle.plain_volume.specs.declared.call.Reply.TheVariants as reply
 use Rattle.plain_volume.specs.declared.call.Fault.TheVariants as fault
-use Rattle.volume_core.specs.States.{volume_in}
+use Rattle.volume_core.specs.States.{plain_in}
 use Rattle.volume_core.specs.Moves.{Moves}
 use Rattle.ddpsh.specs.States.{State, reply_in}
 use Rattle.ddpsh.specs.Listing.{listing}
@@ -19,7 +19,7 @@ use Rattle.script_items.specs.Script.{Item, Bad, Bare, Paid, Cut, Spoilt}
 pub record OneCall (call : Call) (before : State) (calls : List (Call × Reply)) (answer : Answer) (after : State) : Type 0 where
   pub calls_are : calls ≡ (call, reply_in before call) ∷ []
   pub says : said (reply_in before call) ≡ Some answer
-  pub leaves : volume_in after ≡ volume_after (volume_in before) call (reply_in before call)
+  pub leaves : plain_in after ≡ volume_after (plain_in before) call (reply_in before call)
   pub moves : Moves call (reply_in before call) before after
 
 -- a line of no call, whose answer is told by the state
@@ -37,8 +37,8 @@ pub record Unmounts (before : State) (calls : List (Call × Reply)) (answer : An
 
 -- A line that lists the files: their number, and behind it the line of each.
 pub record Lists (before : State) (calls : List (Call × Reply)) (answer : Answer) (after : State) : Type 0 where
-  pub calls_are : calls ≡ listing None (volume_in before)
-  pub says : answer ≡ Accepted (number (length (volume_in before)) ++ file_lines (volume_in before))
+  pub calls_are : calls ≡ listing None (plain_in before)
+  pub says : answer ≡ Accepted (number (length (plain_in before)) ++ file_lines (plain_in before))
   pub leaves : after ≡ before
 
 -- the calls of an accepted line with their replies, and its answer to these
@@ -82,7 +82,7 @@ pub record ListBegun (before : State) (calls : List (Call × Reply)) : Type 0 wh
   pub front : List (Call × Reply)
   pub rest : List (Call × Reply)
   pub last : List (Call × Reply)
-  pub whole : listing None (volume_in before) ≡ front ++ rest
+  pub whole : listing None (plain_in before) ≡ front ++ rest
   pub calls_are : calls ≡ front ++ last
   pub wanted : (last ≡ []) ⊎ LacksMemory rest last
 

@@ -9,7 +9,7 @@ use Rattle.volume_core.specs.Bounds.{touched_by, HasSpent, IsSpentIn, IsSpent}
 use Rattle.volume_core.specs.Volumes.{clusters_in}
 use Rattle.volume_core.specs.Wants.{wants_of}
 use Rattle.volume_core.specs.declared.volume.Volume.{Volume as Engine}
-use Rattle.volume_core.specs.States.{volume_in, wants_in}
+use Rattle.volume_core.specs.States.{plain_in, wants_in}
 use Rattle.ddpsh.specs.States.{State}
 use Rattle.ddpsh.specs.Runs.{Entry}
 
@@ -21,7 +21,7 @@ touched_by_all (pair ∷ calls) = touched_by pair.0 + touched_by_all calls
 -- WHAT MAY BE WANTING in a volume of n clusters whose writes touched b so far: no id and no epoch, so a flush is not
 -- refused; clusters, or the bytes of a half of the journal, only where they are spent.
 pub record AreSpent (n b : ℕ) (s : State) : Type 0 where
-  pub spent : (call : Call) (fault : Fault) → wants_in s call ≡ Some fault → IsSpentIn ⊥ n (volume_in s) b call fault
+  pub spent : (call : Call) (fault : Fault) → wants_in s call ≡ Some fault → IsSpentIn ⊥ n (plain_in s) b call fault
   pub flushes : wants_in s Flush ≡ None
 
 -- the same of the state before each of these lines, and of the one that they leave

@@ -1,14 +1,14 @@
 -- The words of the command.
 use Rattle.std.specs.Prelude.{◌≡◌, ◌≤◌, ℕ, List, [], ◌∷◌, codes, decimal}
 use Rattle.answer_text.specs.Answers.{ended}
-use Rattle.ddpsh.specs.declared.limits.TheConstants.{FEWEST_CLUSTERS, MOST_CLUSTERS}
+use Rattle.volume_inside.specs.declared.layout.TheConstants.{LEAST_CLUSTERS, MOST_CLUSTERS}
 use Rattle.ddpsh.specs.declared.commands.Command.{Command}
 use Rattle.ddpsh.specs.declared.commands.Command.TheVariants.{Mount, Format}
 
 -- a number of clusters is written in decimal digits, without a sign or a leading zero
 pub record IsClusters (word : List ℕ) (clusters : ℕ) : Type 0 where
   pub spelled : word ≡ decimal clusters
-  pub least : FEWEST_CLUSTERS ≤ clusters
+  pub least : LEAST_CLUSTERS ≤ clusters
   pub most : clusters ≤ MOST_CLUSTERS
 
 -- a number of clusters behind `--format`
@@ -25,7 +25,7 @@ Asks other command = ⊥
 -- a fresh volume has a number of clusters that it may have
 abbrev pub IsInRange : Command → Type 0
 IsInRange Mount = Unit {0}
-IsInRange (Format clusters) = (FEWEST_CLUSTERS ≤ clusters) × (clusters ≤ MOST_CLUSTERS)
+IsInRange (Format clusters) = (LEAST_CLUSTERS ≤ clusters) × (clusters ≤ MOST_CLUSTERS)
 
 abbrev pub usage : List ℕ
 usage = ended (codes "usage: ddpsh IMAGE [--format CLUSTERS] [--volume V] [--turns N] [--cores N]")

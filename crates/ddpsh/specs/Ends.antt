@@ -57,7 +57,7 @@ pub record IsCutOff (item : Item) (stage now : State) (n : ℕ) (last : Last) : 
   pub acks : last.acks ≡ one_if (is_exit item && is_accepted answer) (n + length last.calls)
 
 -- a line was begun and prints nothing, or the end of the script was reached, or nothing was begun
-pub record IsBegun (item : Item) (stage : State) (last : Last) : Type 0 where
+pub record IsStarted (item : Item) (stage : State) (last : Last) : Type 0 where
   pub starts : Starts item stage last.calls
   pub acks : last.acks ≡ []
   pub held : last.held ≡ last.before
@@ -67,8 +67,8 @@ abbrev pub Ends : End → List ℕ → State → State → ℕ → Last → Type
 Ends ends.Over rest stage now n last = IsOver rest stage n last
 Ends ends.Worn rest stage now n last = IsWorn rest stage last
 Ends ends.Exit rest stage now n last = IsNone last
-Ends ends.Device rest stage now n last = IsBegun (first_item rest) stage last
-Ends ends.Memory rest stage now n last = IsBegun (first_item rest) stage last
+Ends ends.Device rest stage now n last = IsStarted (first_item rest) stage last
+Ends ends.Memory rest stage now n last = IsStarted (first_item rest) stage last
 Ends ends.Sink rest stage now n last = IsCutOff (first_item rest) stage now n last
 Ends ends.Source rest stage now n last = IsNone last
 Ends ends.TooLong rest stage now n last = IsNone last

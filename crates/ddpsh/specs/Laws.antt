@@ -35,8 +35,8 @@ ImagesFixStates = (image : List ℕ) (opening start : State) (script : List ℕ)
     → (opening ≡ start) × (take (length others) es ≡ take (length es) others)
 
 -- a state after so many lines of a run that opened with this epoch, which does not fall, and takes one a line at most
-abbrev pub IsWithin : ℕ → ℕ → State → Type 0
-IsWithin opened lines s = (opened ≤ s.pending.epoch) × (s.pending.epoch ≤ opened + lines)
+abbrev pub HasEpochWithin : ℕ → ℕ → State → Type 0
+HasEpochWithin opened lines s = (opened ≤ s.pending.epoch) × (s.pending.epoch ≤ opened + lines)
 
 -- Over an image that is mounted no epoch is wanting while the answered lines are too few to come to the last one: the
 -- inside and the number of clusters tell what each call wants.
@@ -44,5 +44,5 @@ abbrev pub FewLinesWantNoEpoch : Type 0
 FewLinesWantNoEpoch = (image : List ℕ) (opening : State) (script : List ℕ) (es : List Entry) (rest : List ℕ)
     (now : State) → IsStateOf image opening → Served opening script es rest now
     → opening.pending.epoch + length es < last_epoch
-    → IsWithin opening.pending.epoch (length es) now × (wears_at now ≡ false)
+    → HasEpochWithin opening.pending.epoch (length es) now × (wears_at now ≡ false)
     × ((call : Call) → wants_in now call ≡ wants_but_epochs now.clusters now.inside call)

@@ -19,9 +19,9 @@ Opens Mount image s = IsStateOf image s
 Opens (Format clusters) image s = IsFreshState clusters s
 
 -- why the disk was not mounted, or no volume made on it
-abbrev pub IsRefusal : Command → DiskState → DiskState → MountFault → Type 0
-IsRefusal Mount old new fault = IsMountFault old new fault
-IsRefusal (Format clusters) old new fault = IsFormatFault clusters old new fault
+abbrev pub IsOpeningFault : Command → DiskState → DiskState → MountFault → Type 0
+IsOpeningFault Mount old new fault = IsMountFault old new fault
+IsOpeningFault (Format clusters) old new fault = IsFormatFault clusters old new fault
 
 -- not a fault of the device, and not want of memory
 abbrev pub is_reason : MountFault → Bool
@@ -40,5 +40,5 @@ IsRefusedEnd fault other = ⊥
 abbrev pub EndsUnopened : Command → DiskState → DiskState → End → Type 0
 EndsUnopened command old new ends.Device = Rose old.faults new.faults
 EndsUnopened command old new ends.Memory = Unit {0}
-EndsUnopened command old new (ends.Refused fault) = IsRefusal command old new fault × (is_reason fault ≡ true)
+EndsUnopened command old new (ends.Refused fault) = IsOpeningFault command old new fault × (is_reason fault ≡ true)
 EndsUnopened command old new other = ⊥

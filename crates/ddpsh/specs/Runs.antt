@@ -5,7 +5,7 @@ use Rattle.plain_volume.specs.Step.{Legal, replay}
 use Rattle.plain_volume.specs.declared.call.Call.{Call}
 use Rattle.plain_volume.specs.declared.call.Reply.{Reply}
 use Rattle.volume_inside.specs.Inside.{Inside}
-use Rattle.volume_core.specs.States.{volume_in}
+use Rattle.volume_core.specs.States.{plain_in}
 use Rattle.volume_core.specs.Moves.{inside_after}
 use Rattle.ddpsh.specs.States.{State}
 use Rattle.script_items.specs.Script.{Item, BeginsWith}
@@ -37,9 +37,9 @@ abbrev pub AreAnswered : State → List Entry → Type 0
 AreAnswered before [] = Unit {0}
 AreAnswered before (e ∷ es) = Comes e.item before e.calls e.answer e.after × AreAnswered e.after es
 
-abbrev pub left_by : State → List Entry → State
-left_by before [] = before
-left_by before (e ∷ es) = left_by e.after es
+abbrev pub state_behind : State → List Entry → State
+state_behind before [] = before
+state_behind before (e ∷ es) = state_behind e.after es
 
 abbrev pub some_refused : List Entry → Bool
 some_refused [] = false
@@ -77,8 +77,8 @@ insides_after (pair ∷ calls) i = insides_after calls (inside_after pair.0 pair
 
 -- calls with lawful replies, from one state to the next
 pub record Made (v w : State) (calls : List (Call × Reply)) : Type 0 where
-  pub legal : Legal (volume_in v) calls
-  pub now : volume_in w ≡ replay (volume_in v) calls
+  pub legal : Legal (plain_in v) calls
+  pub now : plain_in w ≡ replay (plain_in v) calls
   pub inside : w.inside ≡ insides_after calls v.inside
   pub clusters : w.clusters ≡ v.clusters
 
@@ -86,5 +86,5 @@ pub record Made (v w : State) (calls : List (Call × Reply)) : Type 0 where
 pub record Served (opening : State) (script : List ℕ) (es : List Entry) (rest : List ℕ) (now : State) : Type 0 where
   pub items : BeginsWith (items_of es) script rest
   pub answers : AreAnswered opening es
-  pub state : now ≡ left_by opening es
+  pub state : now ≡ state_behind opening es
   pub made : Made opening now (calls_of es)

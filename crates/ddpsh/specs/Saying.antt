@@ -27,5 +27,4 @@ is_flushed asked kind = asks_flush asked && is_ok kind
 -- how a session ends where its last flush is refused
 abbrev pub ended_by : Fault → Result Answered SessionFault
 ended_by fault.Failed = Err stop.Device
-ended_by fault.Memory = Err stop.Memory
 ended_by other = Ok answered.Refused

@@ -36,9 +36,9 @@ is_last answered.Exit = true
 is_last other = false
 
 -- a count of calls goes on, and stands still at the end of its type
-abbrev pub counted_on : ℕ → ℕ → ℕ
-counted_on n zero = n
-counted_on n (suc more) = min (n + suc more) (2 ^ 64 - 1)
+abbrev pub counted_up : ℕ → ℕ → ℕ
+counted_up n zero = n
+counted_up n (suc more) = min (n + suc more) (2 ^ 64 - 1)
 
 abbrev pub acks_if : Bool → Ack → Option Ack
 acks_if true ack = Some ack
@@ -95,32 +95,39 @@ module _ {D : Type 0} {d : Ghosts D} where
   -- what an item came to, whose calls were counted
   abbrev pub HasCome : Item → Session D d → Session D d → Result Answered SessionFault → List ℕ → Type 0
   HasCome item old new result text =
-      (made : ℕ) × (new.calls ≡ counted_on old.calls made) × (made ≤ MOST_CALLS_OF_A_LINE)
+      (made : ℕ) × (new.calls ≡ counted_up old.calls made) × (made ≤ MOST_CALLS_OF_A_LINE)
       × ComesTo item old.volume new.volume made result text
 
-  -- what is kept of acknowledgements: the last line's, if it gave one, where all calls so far are durable
-  pub record Acks (new : Session D d) (acked : Bool) : Type 0 where
-    pub ack : new.ack ≡ acks_if acked (ack_now new)
-    pub durable : acked ≡ true → IsDurable new.volume
-
   -- WHAT A LINE DOES, over a disk that tells what it holds: these calls were made with these replies, it ends so, and a
-  -- crash at any moment of it leaves the volume after a front of the calls, or what was kept before.
-  pub record DoesLine (item : Item) (old new : Session D d) (before held : Option (List ℕ))
-      (result : Result Answered SessionFault) : Type 0 where
+  -- crash at any moment of it leaves the volume after a front of the calls, or what was kept before. Where it
+  -- acknowledges all calls so far, they are durable.
+  pub record LineRun (item : Item) (old new : Session D d) (before held : Option (List ℕ))
+      (result : Result Answered SessionFault) (durable : Bool) : Type 0 where
     pub calls : List (Call × Reply)
-    pub durable : Bool
     pub made : Made (state_of old) (state_of new) calls
     pub ends : LineEnds result item (state_of old) (state_of new) calls durable before held
-    pub counted : new.calls ≡ counted_on old.calls (length calls)
+    pub counted : new.calls ≡ counted_up old.calls (length calls)
     pub few : length calls ≤ MOST_CALLS_OF_A_LINE
     pub carries : Carries old.volume new.volume calls
-    pub acks : Acks new durable
+    pub stands : durable ≡ true → IsDurable new.volume
 
   -- the same of the end of a script: no call is made
-  pub record DoesEnd (old new : Session D d) (result : Result Answered SessionFault) : Type 0 where
-    pub durable : Bool
+  pub record EndRun (old new : Session D d) (result : Result Answered SessionFault) (durable : Bool) : Type 0 where
     pub made : Made (state_of old) (state_of new) []
     pub ends : EndEnds result (state_of old) durable
     pub counted : new.calls ≡ old.calls
     pub carries : Carries old.volume new.volume []
-    pub acks : Acks new durable
+    pub stands : durable ≡ true → IsDurable new.volume
+
+  -- a line whose acknowledgement, if it gave one, is kept in the session, in the place of the last one
+  pub record DoesLine (item : Item) (old new : Session D d) (before held : Option (List ℕ))
+      (result : Result Answered SessionFault) : Type 0 where
+    pub durable : Bool
+    pub run : LineRun item old new before held result durable
+    pub ack : new.ack ≡ acks_if durable (ack_now new)
+
+  -- the same of the end of a script
+  pub record DoesEnd (old new : Session D d) (result : Result Answered SessionFault) : Type 0 where
+    pub durable : Bool
+    pub run : EndRun old new result durable
+    pub ack : new.ack ≡ acks_if durable (ack_now new)

@@ -1,23 +1,20 @@
 -- Lines in a row, over one session.
-use Rattle.std.specs.Prelude.{◌≡◌, ◌≤◌, ◌*◌, ℕ, Bool, true, false, List, [], ◌∷◌, ◌++◌, length, map, take, Contains, Option, Some, Result, Ok, Err}
+use Rattle.std.specs.Prelude.{◌≡◌, ◌≤◌, ◌*◌, ℕ, Bool, true, false, List, [], ◌∷◌, ◌++◌, length, map, take, Contains, Option, Result, Ok, Err}
 use Rattle.vdisk.specs.declared.disk.Disk.{Ghosts}
 use Rattle.plain_volume.specs.Volume.{Volume}
 use Rattle.plain_volume.specs.Step.{replay}
 use Rattle.plain_volume.specs.declared.call.Call.{Call}
-use Rattle.plain_volume.specs.declared.call.Call.TheVariants as call
 use Rattle.plain_volume.specs.declared.call.Reply.{Reply}
-use Rattle.ddpsh.specs.States.{State, reply_in}
 use Rattle.volume_core.specs.Bounds.{HasSpent}
 use Rattle.volume_core.specs.Volumes.{disk_of, view_now, clusters_in, IsKept}
 use Rattle.ddpsh.specs.Bounds.{touched_by_all, Bounded, IsFresh}
-use Rattle.ddpsh.specs.Served.{IsDurable, IsStored}
-use Rattle.ddpsh.specs.Crashes.{Carries, LastsFrom}
+use Rattle.ddpsh.specs.Served.{IsStored}
+use Rattle.ddpsh.specs.Crashes.{LastsFrom}
 use Rattle.script_items.specs.Script.{Item}
-use Rattle.answer_text.specs.Answers.{Answer, said, is_accepted, is_refused}
-use Rattle.ddpsh.specs.Runs.{Entry, Made, StayOpen, calls_of, acknowledged}
+use Rattle.ddpsh.specs.Runs.{Entry, StayOpen, calls_of, acknowledged}
 use Rattle.ddpsh.specs.Ends.{AnsweredSo, RunOf, HasLetGo, stop_end, over_end}
 use Rattle.script_items.specs.Input.{IsLeft, taken}
-use Rattle.ddpsh.specs.Sessions.{state_of, ack_now, counted_on, LineEnds}
+use Rattle.ddpsh.specs.Sessions.{state_of, ack_now, LineRun, EndRun}
 use Rattle.ddpsh.specs.declared.limits.TheConstants.{MOST_CALLS_OF_A_LINE}
 use Rattle.ddpsh.specs.declared.acks.Ack.{Ack}
 use Rattle.script_items.specs.declared.input.Input.{Input}
@@ -44,39 +41,21 @@ IsSessionEnd ends.Device = Unit {0}
 IsSessionEnd ends.Memory = Unit {0}
 IsSessionEnd other = ⊥
 
--- how the end of a script ends a run, in a state of the plain volume
-abbrev pub EndsOver : End → State → Bool → Type 0
-EndsOver ends.Over v durable = (answer : Answer) × (said (reply_in v call.Flush) ≡ Some answer)
-    × (is_accepted answer ≡ true) × (durable ≡ true)
-EndsOver ends.Worn v durable = (answer : Answer) × (said (reply_in v call.Flush) ≡ Some answer)
-    × (is_refused answer ≡ true) × (durable ≡ false)
-EndsOver ends.Device v durable = durable ≡ false
-EndsOver ends.Memory v durable = durable ≡ false
-EndsOver other v durable = ⊥
-
 module _ {D : Type 0} {d : Ghosts D} where
-  -- what a line does to a run: `durable` says that it acknowledged all calls so far
+  -- a line of a run, whose acknowledgement, if it gave one, is put behind those of the lines before
   pub record DoesStep (item : Item) (old new : Session D d) (before held : Option (List ℕ))
       (result : Result Answered SessionFault) (acks later : List Ack) : Type 0 where
-    pub calls : List (Call × Reply)
     pub durable : Bool
-    pub made : Made (state_of old) (state_of new) calls
-    pub ends : LineEnds result item (state_of old) (state_of new) calls durable before held
-    pub counted : new.calls ≡ counted_on old.calls (length calls)
-    pub few : length calls ≤ MOST_CALLS_OF_A_LINE
-    pub carries : Carries old.volume new.volume calls
+    pub run : LineRun item old new before held result durable
     pub acks_are : later ≡ acks ++ acks_when durable (ack_now new)
-    pub stands : durable ≡ true → IsDurable new.volume
 
-  -- what the end of a script does to a run
+  -- the same of the end of a script, which ends the run
   pub record DoesEndStep (old new : Session D d) (end : End) (acks later : List Ack) : Type 0 where
+    pub ended : Result Answered SessionFault
+    pub end_is : end ≡ session_end ended
     pub durable : Bool
-    pub made : Made (state_of old) (state_of new) []
-    pub ends : EndsOver end (state_of old) durable
-    pub counted : new.calls ≡ old.calls
-    pub carries : Carries old.volume new.volume []
+    pub run : EndRun old new ended durable
     pub acks_are : later ≡ acks ++ acks_when durable (ack_now new)
-    pub stands : durable ≡ true → IsDurable new.volume
 
   -- What a run over a fresh volume has spent at some point, and what was wanting by then.
   pub record Spending (n : ℕ) (first now : Session D d) (entries : List Entry) : Type 0 where

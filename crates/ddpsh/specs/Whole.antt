@@ -6,7 +6,7 @@ use Rattle.plain_volume.specs.declared.call.Call.{Call}
 use Rattle.plain_volume.specs.declared.call.Reply.{Reply}
 use Rattle.volume_core.specs.Volumes.{disk_of, view_now}
 use Rattle.volume_core.specs.declared.volume.Volume.{Volume as Engine}
-use Rattle.volume_core.specs.States.{volume_in, IsStateOf}
+use Rattle.volume_core.specs.States.{plain_in, IsStateOf}
 use Rattle.ddpsh.specs.States.{State}
 use Rattle.ddpsh.specs.Served.{volume_state}
 use Rattle.ddpsh.specs.Bounds.{Bounded, IsFresh}
@@ -53,12 +53,12 @@ pub record IsOpenedRun (command : Command) (old new : DiskState) (script : List 
   pub run : RunOf opening closing script before mid ran calls (map (λ ack. ack.calls) outcome.acks)
   -- where the volume was let go, the image has the last inside
   pub stored : HasLetGo ran.end run.last.acks → IsStateOf new.image closing
-  pub lasts : Lasts (volume_in opening) opened calls outcome.acks new
+  pub lasts : Lasts (plain_in opening) opened calls outcome.acks new
   -- over a volume that was made anew nothing was wanting that was not spent
   pub bounded : (n : ℕ) → command ≡ Format n → Bounded n 0 opening run.entries
   -- an image that is mounted, and that was all that a crash could leave, lasts from the start on
   pub from_start : command ≡ Mount → Only old.image old.may_leave
-      → (c : List ℕ) → new.left_since old.moment c → MountsAfter (volume_in opening) calls 0 c
+      → (c : List ℕ) → new.left_since old.moment c → MountsAfter (plain_in opening) calls 0 c
   pub printed : IsPrinted mid faults_before (last_line ran.end) held faults_now
   pub status : outcome.status ≡ status_of ran.end ran.refused
   pub lines : outcome.lines ≡ ran.lines

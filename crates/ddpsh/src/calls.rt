@@ -1,6 +1,7 @@
 // One line with what stands behind it, served by a volume.
-ghost use Rattle.std.specs.Prelude.{◌≡◌, false, true, Some, Ok, replicate, IfOk, OnOk, OnErr, IsErrOf};
+ghost use Rattle.std.specs.Prelude.{◌≡◌, ◌<◌, false, true, Some, Ok, replicate, IfOk, OnOk, OnErr, IsErrOf};
 ghost use Rattle.cmdlet_line.specs.Lines.{Create, Write, Read, Fill, Length, Rename, Delete, Digest, Stat, Flush, Exit, ask_of};
+ghost use Rattle.cmdlet_line.specs.Spelled.{AreInRange};
 ghost use Rattle.plain_volume.specs.Replies.{done_reply};
 ghost use Rattle.script_items.specs.Script.{item_of, with_payload, Bare, Paid};
 ghost use Rattle.answer_text.specs.Answers.{Answer, said};
@@ -21,7 +22,8 @@ use plain_volume::laws::own_replies_are_steps;
 use script_items::is_spoilt_at;
 use std::alloc::Global;
 use vdisk::Disk;
-use volume_core::{Volume, volumes_wear_at_the_last_epoch};
+use volume_core::Volume;
+use volume_core::laws::volumes_wear_at_the_last_epoch;
 
 /// How many calls a line has made, and the kind of its answer, or why it has none.
 #[derive(Clone, Copy)]
@@ -170,16 +172,13 @@ fn exit<D: Disk>(volume: &mut Volume<D>, text: &mut Vec<u8>) -> Attempt
     }
 }
 
-/// So many equal bytes. No line that is read has a byte above 255.
-fn repeat(text: &mut Vec<u8>, count: u64, byte: u64) -> Result<(), SessionFault>
+/// So many equal bytes.
+fn repeat(text: &mut Vec<u8>, count: u64, byte: u8) -> Result<(), SessionFault>
     ensures bytes { OnOk result (text.new.items ≡ replicate count byte) }
     ensures memory { OnErr result (IsErrOf result SessionFault.Memory) }
 {
-    if byte > 255 {
-        return Err(SessionFault::Memory);
-    }
     text.clear();
-    text.resize(count as usize, byte as u8)?;
+    text.resize(count as usize, byte)?;
     Ok(())
 }
 
@@ -192,13 +191,14 @@ fn fill<D: Disk>(
     byte: u64,
     text: &mut Vec<u8>,
 ) -> Attempt
-    requires { stopped volume.old ≡ false }
+    requires running { stopped volume.old ≡ false }
+    requires small { byte < 256 }
     ensures told { (w : PlainVolume) → IsKept volume.old w →
         Attempts (Bare (Fill name.now at count byte)) volume.old volume.new result text.new.items }
     ensures steady { IsSteady volume.old volume.new result }
 {
     own_replies_are_steps();
-    match repeat(text, count, byte) {
+    match repeat(text, count, byte as u8) {
         Ok(()) => {
             let given = volume.write(name, at, text);
             called(done(text, given))
@@ -279,7 +279,8 @@ fn answer_line<D: Disk>(
     behind: &[u8],
     text: &mut Vec<u8>,
 ) -> Attempt
-    requires { stopped volume.old ≡ false }
+    requires running { stopped volume.old ≡ false }
+    requires fits { AreInRange (ask_of line) }
     ensures told { (w : PlainVolume) → IsKept volume.old w →
         Attempts (item_of (Ok (ask_of line.entry)) behind.now) volume.old volume.new result text.new.items }
     ensures idle { makes_none (item_of (Ok (ask_of line.entry)) behind.now) ≡ true →
@@ -313,7 +314,8 @@ pub(crate) fn answer<D: Disk>(
     behind: &[u8],
     text: &mut Vec<u8>,
 ) -> Attempt
-    requires { stopped volume.old ≡ false }
+    requires running { stopped volume.old ≡ false }
+    requires fits { IfOk (asked_as asked) AreInRange }
     ensures told { (w : PlainVolume) → IsKept volume.old w →
         Attempts (item_of (asked_as asked.entry) behind.now) volume.old volume.new result text.new.items }
     ensures idle { makes_none (item_of (asked_as asked.entry) behind.now) ≡ true →

@@ -3,9 +3,9 @@ ghost use Rattle.std.specs.Prelude.{◌≡◌, ◌↔◌, IsTrue, ℕ, IfSome, I
 ghost use Rattle.ddpsh.specs.Commands.{IsClusters, Asks, AsksFormat, usage};
 ghost use Rattle.ddpsh.specs.declared.commands.Command.{Command};
 
-use crate::limits::{FEWEST_CLUSTERS, MOST_CLUSTERS};
 use cmdlet_line::Words;
 use itoa::Buffer;
+use volume_inside::{LEAST_CLUSTERS, MOST_CLUSTERS};
 
 /// What the words of the command ask.
 #[derive(Clone, Copy, Debug, PartialEq, Eq)]
@@ -60,7 +60,7 @@ fn clusters_of(word: &str) -> Option<u32>
     let Ok(clusters) = word.parse::<u32>() else {
         return None;
     };
-    if clusters < FEWEST_CLUSTERS {
+    if clusters < LEAST_CLUSTERS {
         return None;
     }
     if clusters > MOST_CLUSTERS {

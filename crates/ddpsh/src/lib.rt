@@ -5,7 +5,7 @@ mod acks;
 mod calls;
 mod commands;
 mod ending;
-mod laws;
+pub mod laws;
 mod limits;
 mod listing;
 mod opening;
@@ -16,10 +16,8 @@ mod top;
 pub use acks::{Ack, Acks};
 pub use answer_text::{Answered, SessionFault};
 pub use commands::{Command, command_of};
-pub use laws::{
-    few_lines_want_no_epoch, images_fix_states, items_have_one_answer, scripts_have_one_run,
-};
-pub use limits::{FEWEST_CLUSTERS, MOST_CALLS_OF_A_LINE, MOST_CLUSTERS};
+pub use limits::MOST_CALLS_OF_A_LINE;
 pub use script_items::{MOST_AHEAD, MOST_SCRIPT};
 pub use session::Session;
 pub use top::{Outcome, run};
+pub use volume_inside::{CLUSTER_BYTES, LEAST_CLUSTERS, MOST_CLUSTERS};

@@ -7,11 +7,12 @@ ghost use Rattle.ddpsh.specs.Served.{Attempts, IsSteady};
 
 use crate::calls::Attempt;
 use answer_text::{SessionFault, accepted_lines, add_line};
-use plain_volume::Name;
 use plain_volume::limits::MOST_FILES;
+use plain_volume::{Fault, Name};
 use std::alloc::Global;
 use vdisk::Disk;
-use volume_core::{Volume, volume_is_lawful};
+use volume_core::Volume;
+use volume_core::laws::volume_is_lawful;
 
 /// The bytes of a name, if there is one.
 fn bytes_in(name: &Option<Name>) -> Option<&[u8]>
@@ -52,7 +53,10 @@ pub(crate) fn list<D: Disk>(volume: &Volume<D>, alloc: Global, text: &mut Vec<u8
                     ended: accepted_lines(text, alloc, count),
                 };
             }
-            Err(_) => return cut_short(2 * count + 1),
+            Err(fault) => match fault {
+                Fault::Memory => return cut_short(2 * count + 1),
+                _ => unreachable!(),
+            },
         };
         let Ok(size) = volume.stat(name.as_bytes()) else {
             unreachable!()

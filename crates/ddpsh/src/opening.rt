@@ -5,7 +5,7 @@ ghost use Rattle.meta_log.specs.Opened.{IsOnlyRead};
 ghost use Rattle.answer_text.specs.Answers.{Refused, text_of};
 ghost use Rattle.ddpsh.specs.Bounds.{IsFresh};
 ghost use Rattle.ddpsh.specs.Commands.{IsInRange};
-ghost use Rattle.ddpsh.specs.Opens.{Opens, IsRefusal, IsRefusedEnd};
+ghost use Rattle.ddpsh.specs.Opens.{Opens, IsOpeningFault, IsRefusedEnd};
 ghost use Rattle.ddpsh.specs.Outcomes.{mount_text};
 ghost use Rattle.ddpsh.specs.Served.{volume_state};
 ghost use Rattle.volume_core.specs.Volumes.{device_of, disk_of, view_now, stopped, IsKept};
@@ -31,7 +31,7 @@ pub(crate) fn open<D: Disk>(
     ensures kept { IsTrue (D.state disk).tells → IfOk result (λ v. IsKept v (view_now v)) }
     ensures runs { IfOk result (λ v. stopped v ≡ false) }
     ensures fresh { (n : ℕ) → command ≡ asks.Format n → IfOk result (λ v. IsFresh n v) }
-    ensures refused { IfErr result (λ e. IsRefusal command (D.state disk) (D.state e.0) e.1) }
+    ensures refused { IfErr result (λ e. IsOpeningFault command (D.state disk) (D.state e.0) e.1) }
     ensures later { IfOk result (λ v. (D.state disk).faults ≤ (disk_of v).faults) }
     ensures read { command ≡ asks.Mount → IfOk result (λ v. IsOnlyRead (D.state disk) (disk_of v)) }
     ensures read_err { command ≡ asks.Mount → IfErr result (λ e. IsOnlyRead (D.state disk) (D.state e.0)) }

@@ -2,6 +2,7 @@
 ghost use Rattle.std.specs.Prelude.{◌≡◌, ◌≤◌, ◌⊎◌, false, true, None, Some, Ok, is_some, IfOk, IfSome, OnOk, IsErrOf, IsTrue, IsOk};
 ghost use Rattle.vdisk.specs.Causes.{Rose, HasCause};
 ghost use Rattle.cmdlet_line.specs.Lines.{line_of};
+ghost use Rattle.cmdlet_line.specs.Spelled.{AreInRange};
 ghost use Rattle.script_items.specs.Script.{item_of};
 ghost use Rattle.plain_volume.specs.Volume.{Volume as PlainVolume};
 ghost use Rattle.volume_core.specs.Volumes.{device_of, disk_of, stopped, IsKept};
@@ -14,11 +15,13 @@ ghost use Rattle.ddpsh.specs.Saying.{is_flushed, ended_by};
 use crate::acks::Ack;
 use crate::calls::answer;
 use answer_text::{Answered, SessionFault, put_all};
+use cmdlet_line::laws::what_is_asked_is_in_range;
 use cmdlet_line::{Line, LineFault, parse};
 use plain_volume::Fault;
 use std::alloc::Global;
 use vdisk::{Clock, Disk, Failed, Sink};
-use volume_core::{Volume, what_is_wanting_is_spent};
+use volume_core::Volume;
+use volume_core::laws::what_is_wanting_is_spent;
 
 /// A mounted volume with what a script over it needs: its volume text, and how many calls were made.
 #[derive(Drop)]
@@ -84,12 +87,13 @@ pub(crate) fn wants_are_spent<D: Disk>(session: &Session<D>)
 
 /// How a session ends where its last flush is refused.
 fn ended_by(fault: Fault) -> Result<Answered, SessionFault>
+    requires { (fault ≡ Fault.Failed) ⊎ (fault ≡ Fault.Worn) }
     ensures { result ≡ ended_by fault }
 {
     match fault {
         Fault::Failed => Err(SessionFault::Device),
-        Fault::Memory => Err(SessionFault::Memory),
-        _ => Ok(Answered::Refused),
+        Fault::Worn => Ok(Answered::Refused),
+        _ => unreachable!(),
     }
 }
 
@@ -188,7 +192,8 @@ impl<D: Disk> Session<D> {
         text: &mut Vec<u8>,
         clock: &mut C,
     ) -> Result<Answered, SessionFault>
-        requires { stopped self.old.volume ≡ false }
+        requires running { stopped self.old.volume ≡ false }
+        requires fits { IfOk (asked_as asked) AreInRange }
         ensures told { (w : PlainVolume) → IsKept self.old.volume w →
             HasCome (item_of (asked_as asked.entry) payload.now) self.old self.new result text.new.items }
         ensures rest { IsSameBeside self.old self.new }
@@ -253,6 +258,7 @@ impl<D: Disk> Session<D> {
             ⊎ Rose (C.faults clock.old) (C.faults clock.new) }
         ensures sink { IsErrOf result SessionFault.Sink → Rose (K.faults out.old) (K.faults out.new) }
     {
+        what_is_asked_is_in_range();
         self.ack = None;
         let mut text = answer_room(self.room.take(), alloc);
         let asked = parse(line, self.text);

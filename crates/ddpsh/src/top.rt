@@ -9,7 +9,7 @@ ghost use Rattle.ddpsh.specs.Clocks.{ReadsOften, IsCutStatus};
 ghost use Rattle.ddpsh.specs.Commands.{Asks, IsInRange, usage};
 ghost use Rattle.ddpsh.specs.Complete.{CanOpen, DidNotRise, IsComplete};
 ghost use Rattle.script_items.specs.Input.{GaveTooMany};
-ghost use Rattle.ddpsh.specs.Opens.{IsRefusal, is_reason};
+ghost use Rattle.ddpsh.specs.Opens.{IsOpeningFault, is_reason};
 ghost use Rattle.ddpsh.specs.Outcomes.{last_line, mount_text};
 ghost use Rattle.answer_text.specs.Told.{IsPrinted};
 ghost use Rattle.volume_core.specs.Volumes.{device_of, disk_of, view_now, stopped, IsKept};
@@ -27,7 +27,7 @@ use script_items::VOLUME;
 use std::alloc::Global;
 use vdisk::{Clock, Disk, Sink, Source};
 use volume_core::Volume;
-use volume_inside::an_image_has_one_inside;
+use volume_inside::laws::an_image_has_one_inside;
 use volume_tables::MountFault;
 
 /// What a run of the program comes to.
@@ -152,7 +152,7 @@ fn run_over<S: Source, K: Sink, D: Disk, C: Clock>(
     ensures words { result.1.status ≡ 2 → ⊥ }
     ensures unread { IsNone result.1.opened → script.new ≡ script.old }
     ensures refused { result.1.status ≡ 5 →
-        (fault : MountFault) × IsRefusal command (D.state disk) (D.state result.0) fault × (is_reason fault ≡ true) }
+        (fault : MountFault) × IsOpeningFault command (D.state disk) (D.state result.0) fault × (is_reason fault ≡ true) }
     ensures opened { IsNone result.1.opened → IsEarlyStatus result.1.status }
     ensures device { result.1.status ≡ 3 → Rose (D.state disk).faults (D.state result.0).faults
         ⊎ Rose (C.faults clock.old) (C.faults clock.new) }
@@ -192,7 +192,7 @@ pub fn run<S: Source, K: Sink, D: Disk, C: Clock>(
         HasEnded (K.held out.new) (K.faults out.old) (K.faults out.new) result }
     ensures opened { IsNone result.opened → IsEarlyStatus result.status }
     ensures refused { (command : Command) → Asks words.now command → result.status ≡ 5 → (fault : MountFault)
-        × IsRefusal command (D.state disk.old) (D.state disk.new) fault × (is_reason fault ≡ true) }
+        × IsOpeningFault command (D.state disk.old) (D.state disk.new) fault × (is_reason fault ≡ true) }
     ensures device { result.status ≡ 3 → Rose (D.state disk.old).faults (D.state disk.new).faults
         ⊎ Rose (C.faults clock.old) (C.faults clock.new) }
     ensures sink { result.status ≡ 6 → Rose (K.faults out.old) (K.faults out.new) }

@@ -6,14 +6,12 @@ ghost use Rattle.ddpsh.specs.Commands.{Asks};
 ghost use Rattle.ddpsh.specs.declared.commands.Command.TheVariants.{Format};
 
 use cmdlet_line::Words;
-use ddpsh::{Command, command_of, run};
+use ddpsh::{CLUSTER_BYTES, Command, command_of, run};
 use std::alloc::Global;
 use std::env::{self, Env};
 use std::io::{ErrorKind, writer};
 use std::process::ExitCode;
 use vdisk::{Cause, Disk, FileDisk, ReaderSource, StandardStreams, SystemClock, WriterSink};
-
-const CLUSTER_BYTES: u64 = 4096;
 
 /// Behind the cause that there is no such file: the first word is a path, whatever it looks like.
 const USAGE: &str = "; usage: ddpsh IMAGE [--format CLUSTERS] < SCRIPT, where IMAGE is a path";
@@ -76,7 +74,7 @@ fn fresh_clusters(words: &Words) -> Option<u32>
 /// Is what an image of this size holds replaced by a fresh volume? A longer image is refused.
 fn is_replaced(clusters: Option<u32>, size: u64) -> bool {
     match clusters {
-        Some(clusters) => 0 < size && size <= u64::from(clusters) * CLUSTER_BYTES,
+        Some(clusters) => 0 < size && size <= u64::from(clusters) * u64::from(CLUSTER_BYTES),
         None => false,
     }
 }

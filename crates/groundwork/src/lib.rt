@@ -4,5 +4,5 @@
 mod limits;
 mod memory;
 
-pub use limits::MOST_PIECE_BYTES;
+pub use limits::{LAST_ID, MOST_NAME_BYTES, MOST_PIECE_BYTES};
 pub use memory::Memory;

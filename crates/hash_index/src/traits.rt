@@ -1,10 +1,10 @@
 ghost use Rattle.std.specs.Prelude.{◌≡◌, ◌<◌, ◌≤◌, ◌↔◌, ◌∷◌, ◌++◌, [], ℕ, List, Option, OnOk, OnErr};
 ghost use Rattle.hash_index.specs.Pairs.{Pair, Agrees, Finds, IsFree, Keeps};
 
-use groundwork::Memory;
+use groundwork::{LAST_ID, Memory};
 
 /// The largest id that an index holds: an id takes 48 bits. The least is 1.
-pub const LARGEST_ID: u64 = 0xffff_ffff_ffff;
+pub const LARGEST_ID: u64 = LAST_ID;
 
 /// What tells the digest of an id.
 pub trait Digests {

@@ -6,7 +6,7 @@ ghost use Rattle.meta_log.specs.Ready.{GoesOn};
 ghost use Rattle.meta_log.specs.Reading.{IsGroupOf, IsGroupTaken, IsCheckpointOf, IsReadTo, IsSpellable, records_bytes};
 
 use crate::digest::digest_of_parts;
-use crate::limits::LAST_EPOCH;
+use crate::limits::{BEFORE_BODY, LAST_EPOCH};
 use crate::pieces::{piece, rest_from};
 use crate::records::{Unread, read_pairs, take_records};
 use byte_map::ByteMap;
@@ -33,17 +33,17 @@ fn group_body_length(bytes: &[u8]) -> Option<usize>
     ensures some { IfSome result (λ n. IsGroupOf bytes.now n) }
     ensures none { IfNone result (group_at bytes.now ≡ None) }
 {
-    if bytes.len() < 36 {
+    if bytes.len() < BEFORE_BODY {
         return None;
     }
     let length = BigEndian::read_u32(bytes) as usize;
-    if bytes.len() < 36 + length {
+    if bytes.len() < BEFORE_BODY + length {
         return None;
     }
     if !has_digest(
         piece(bytes, 4, 32),
         piece(bytes, 0, 4),
-        piece(bytes, 36, length),
+        piece(bytes, BEFORE_BODY, length),
     ) {
         return None;
     }
@@ -101,8 +101,8 @@ fn take_group(bytes: &[u8], map: &mut ByteMap) -> Result<usize, Unread>
     let Some(length) = group_body_length(bytes) else {
         return Err(Unread::Damaged);
     };
-    take_records(piece(bytes, 36, length), map)?;
-    Ok(36 + length)
+    take_records(piece(bytes, BEFORE_BODY, length), map)?;
+    Ok(BEFORE_BODY + length)
 }
 
 // Changes a map by the groups from a place on, up to the first closed gate or the half's end, and answers where that

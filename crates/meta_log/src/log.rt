@@ -3,6 +3,7 @@ ghost use Rattle.std.specs.Prelude.{◌≡◌, ◌⊎◌, ◌<◌, ◌≤◌, �
 ghost use Rattle.byte_map.specs.Words.{Map, bytes_in};
 ghost use Rattle.meta_log.specs.Short.{are_short};
 
+use crate::limits::BEFORE_BODY;
 use byte_map::ByteMap;
 use std::alloc::Global;
 use vdisk::Disk;
@@ -71,7 +72,7 @@ impl<D: Disk> MetaLog<D> {
     pub fn staged_bytes(&self) -> usize
         ensures { result ≡ staged_of self.now }
     {
-        self.staged.len() - 36
+        self.staged.len() - BEFORE_BODY
     }
 
     /// The map now, with all that is staged.

@@ -4,6 +4,7 @@
 #![tactic(auto)]
 
 mod calls;
+mod chunk_records;
 mod clusters;
 mod cutting;
 mod draws;

@@ -1,5 +1,6 @@
 // Records of the tables, and superblocks.
-use crate::settings::{answer_settings, first_settings};
+use crate::chunk_records::answer_chunks;
+use crate::settings::first_settings;
 use crate::spelled;
 use row_files::{Answers, Asked, RowFault, Steps};
 use std::alloc::Global;
@@ -38,7 +39,7 @@ fn answer(
         b"pair" => pair(alloc, words, answers),
         b"superblock" => superblock(words, answers),
         b"clusters" => clusters(alloc, words, answers),
-        _ => answer_settings(alloc, settings, asked, answers),
+        _ => answer_chunks(alloc, settings, asked, answers),
     }
 }
 

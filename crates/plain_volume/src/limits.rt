@@ -1,5 +1,7 @@
 //! The limits of a volume.
 
+use groundwork::MOST_NAME_BYTES;
+
 /// The most files of a volume.
 pub const MOST_FILES: u64 = 65_536;
 
@@ -10,4 +12,4 @@ pub const MOST_BYTES_OF_A_CALL: u64 = 1_048_576;
 pub const MOST_BYTES_OF_A_FILE: u64 = 1_073_741_824;
 
 /// The most bytes of a name. The least is 1.
-pub const MOST_BYTES_OF_A_NAME: usize = 255;
+pub const MOST_BYTES_OF_A_NAME: usize = MOST_NAME_BYTES;

@@ -4,7 +4,7 @@ use Rattle.std.proofs.Common.{sym, ◌∙◌, subst, inl, inr, eq-eqb}
 use Rattle.std.proofs.lemmas.Bool.{false≢true}
 use Rattle.byte_map.specs.Words.{Map}
 use Rattle.table_records.specs.Codecs.{Codec, is_pair_of, IsKeyed}
-use Rattle.table_records.specs.Tables.{volume_codec, name_codec, file_codec, extent_codec, settings_codec, result_codec}
+use Rattle.table_records.specs.Tables.{volume_codec, name_codec, file_codec, extent_codec, row_codec, place_codec, container_codec, cluster_codec, settings_codec, result_codec}
 use Rattle.table_records.specs.WellFormed.{Shape, shape_of, shapes, is_of, is_of_one, has_number, IsTable, AllWellFormed, BelongsByNumber}
 
 -- ---- tests
@@ -124,8 +124,20 @@ file_is_table = record { before = take 2 shapes; after = drop 3 shapes; is = ref
 pub extent_is_table : IsTable extent_codec
 extent_is_table = record { before = take 3 shapes; after = drop 4 shapes; is = refl; once = refl }
 
+pub row_is_table : IsTable row_codec
+row_is_table = record { before = take 4 shapes; after = drop 5 shapes; is = refl; once = refl }
+
+pub place_is_table : IsTable place_codec
+place_is_table = record { before = take 5 shapes; after = drop 6 shapes; is = refl; once = refl }
+
+pub container_is_table : IsTable container_codec
+container_is_table = record { before = take 6 shapes; after = drop 7 shapes; is = refl; once = refl }
+
+pub cluster_is_table : IsTable cluster_codec
+cluster_is_table = record { before = take 7 shapes; after = drop 8 shapes; is = refl; once = refl }
+
 pub settings_are_table : IsTable settings_codec
-settings_are_table = record { before = take 4 shapes; after = drop 5 shapes; is = refl; once = refl }
+settings_are_table = record { before = take 8 shapes; after = drop 9 shapes; is = refl; once = refl }
 
 pub result_is_table : IsTable result_codec
-result_is_table = record { before = take 5 shapes; after = drop 6 shapes; is = refl; once = refl }
+result_is_table = record { before = take 9 shapes; after = drop 10 shapes; is = refl; once = refl }

@@ -1,4 +1,5 @@
 pub mod Belongs
+pub mod ChunkBytes
 pub mod Front
 pub mod ListBytes
 pub mod SettingsBytes

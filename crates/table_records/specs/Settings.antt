@@ -106,11 +106,11 @@ settings_in b =
     if nat_lt (length b) 14 then None
     else settings_of b (flag_in (get_or b 0 0)) (flag_in (get_or b 1 0)) (lists_in (drop 14 b))
 
-abbrev pub no_settings : Settings
-no_settings = record { enabled = false; verify = false; minimum_size = 0; age_days = 0; threshold = 0; folders = []; types = [] }
+abbrev pub empty_settings : Settings
+empty_settings = record { enabled = false; verify = false; minimum_size = 0; age_days = 0; threshold = 0; folders = []; types = [] }
 
-abbrev pub settings_or_none : List ℕ → Settings
-settings_or_none b = unwrap_or (settings_in b) no_settings
+abbrev pub settings_or_empty : List ℕ → Settings
+settings_or_empty b = unwrap_or (settings_in b) empty_settings
 
 abbrev pub is_settings : List ℕ → Bool
 is_settings b = is_some (settings_in b)

@@ -8,14 +8,17 @@ use Rattle.byte_map.specs.Words.{bytes_cmp}
 use Rattle.table_records.specs.declared.records.VolumeRecord.{VolumeRecord}
 use Rattle.table_records.specs.declared.records.FileRecord.{FileRecord}
 use Rattle.table_records.specs.declared.records.Extent.{Extent}
+use Rattle.table_records.specs.declared.chunk_records.Row.{Row}
+use Rattle.table_records.specs.declared.chunk_records.Place.{Place}
+use Rattle.table_records.specs.declared.chunk_records.Container.{Container}
 use Rattle.table_records.specs.declared.records.ResultRecord.{ResultRecord}
 use Rattle.table_records.specs.declared.jobs.JobKind.{JobKind}
 use Rattle.table_records.specs.declared.settings.Settings.{Settings}
 use Rattle.table_records.specs.Codecs.{Codec}
 use Rattle.table_records.specs.Keys.{number_in, pair_in, nothing_in, all_in, kind_in, single_key, number_key, pair_key, bytes_key, kind_key, single_cmp, pair_cmp, kind_cmp}
 use Rattle.table_records.specs.Orders.{number_ordered, pair_ordered, pair_total, nothing_ordered, single_total, all_ordered, kind_ordered, kind_total, behind_numbered, behind_ordered}
-use Rattle.table_records.specs.Settings.{settings_or_none, is_settings}
-use Rattle.table_records.specs.Values.{has_length, volume_in, id_in, file_in, extent_in, result_in}
+use Rattle.table_records.specs.Settings.{settings_or_empty, is_settings}
+use Rattle.table_records.specs.Values.{has_length, volume_in, id_in, file_in, extent_in, row_in, place_in, container_in, cluster_in, result_in}
 
 pub some_positive : (n : ℕ) → 0 < n + 1
 some_positive n = omega arith
@@ -77,6 +80,60 @@ extent_codec = record {
   numbered = behind_numbered 4 (pair_in 8 4);
 }
 
+abbrev pub row_codec : Codec ℕ Row
+row_codec = record {
+  number = 5;
+  cmp = nat_cmp;
+  read_key = number_key 5 8;
+  read_value = row_in;
+  is_value = has_length 50;
+  positive = some_positive 4;
+  total = nat_cmp_total;
+  ordered = behind_ordered 5 (number_in 8) nat_cmp (number_ordered 8);
+  numbered = behind_numbered 5 (number_in 8);
+}
+
+-- the key is a row and the number of a copy of it
+abbrev pub place_codec : Codec (ℕ × ℕ) Place
+place_codec = record {
+  number = 6;
+  cmp = pair_cmp;
+  read_key = pair_key 6 8 1;
+  read_value = place_in;
+  is_value = has_length 12;
+  positive = some_positive 5;
+  total = pair_total;
+  ordered = behind_ordered 6 (pair_in 8 1) pair_cmp (pair_ordered 8 1);
+  numbered = behind_numbered 6 (pair_in 8 1);
+}
+
+abbrev pub container_codec : Codec ℕ Container
+container_codec = record {
+  number = 7;
+  cmp = nat_cmp;
+  read_key = number_key 7 8;
+  read_value = container_in;
+  is_value = has_length 5;
+  positive = some_positive 6;
+  total = nat_cmp_total;
+  ordered = behind_ordered 7 (number_in 8) nat_cmp (number_ordered 8);
+  numbered = behind_numbered 7 (number_in 8);
+}
+
+-- the key is a container and the number of a page of it
+abbrev pub cluster_codec : Codec (ℕ × ℕ) ℕ
+cluster_codec = record {
+  number = 8;
+  cmp = pair_cmp;
+  read_key = pair_key 8 8 4;
+  read_value = cluster_in;
+  is_value = has_length 4;
+  positive = some_positive 7;
+  total = pair_total;
+  ordered = behind_ordered 8 (pair_in 8 4) pair_cmp (pair_ordered 8 4);
+  numbered = behind_numbered 8 (pair_in 8 4);
+}
+
 abbrev pub result_codec : Codec JobKind ResultRecord
 result_codec = record {
   number = 10;
@@ -95,7 +152,7 @@ settings_codec = record {
   number = 9;
   cmp = single_cmp;
   read_key = single_key 9;
-  read_value = settings_or_none;
+  read_value = settings_or_empty;
   is_value = is_settings;
   positive = some_positive 8;
   total = single_total;

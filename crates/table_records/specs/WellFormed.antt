@@ -3,7 +3,7 @@ use Rattle.std.specs.Prelude.{◌≡◌, ◌&&◌, ◌||◌, ℕ, Bool, true, fa
 use Rattle.byte_map.specs.Words.{Map}
 use Rattle.table_records.specs.Codecs.{Codec, IsPairOf}
 use Rattle.table_records.specs.Orders.{key_numbered}
-use Rattle.table_records.specs.Tables.{volume_codec, name_codec, file_codec, extent_codec, settings_codec, result_codec}
+use Rattle.table_records.specs.Tables.{volume_codec, name_codec, file_codec, extent_codec, row_codec, place_codec, container_codec, cluster_codec, settings_codec, result_codec}
 
 -- How the pairs of a table are spelled: its number, with which each of its keys begins, and which bytes are its keys
 -- and its values.
@@ -28,6 +28,10 @@ shapes =
     ∷ shape_of name_codec
     ∷ shape_of file_codec
     ∷ shape_of extent_codec
+    ∷ shape_of row_codec
+    ∷ shape_of place_codec
+    ∷ shape_of container_codec
+    ∷ shape_of cluster_codec
     ∷ shape_of settings_codec
     ∷ shape_of result_codec
     ∷ []

@@ -9,7 +9,7 @@ ghost use Rattle.table_records.specs.Codecs.{Codec, typed, IsKeyed};
 ghost use Rattle.table_records.specs.Next.{entry_of};
 ghost use Rattle.table_records.specs.Changes.{IsPut, IsDropped, without_range};
 ghost use Rattle.table_records.specs.Settings.{settings_bytes, settings_in, AreSpellable};
-ghost use Rattle.table_records.specs.Tables.{volume_codec, name_codec, file_codec, extent_codec, settings_codec, result_codec};
+ghost use Rattle.table_records.specs.Tables.{volume_codec, name_codec, file_codec, extent_codec, row_codec, place_codec, container_codec, cluster_codec, settings_codec, result_codec};
 ghost use Rattle.table_records.specs.WellFormed.{IsWellFormed, AllWellFormed, BelongsByNumber};
 
 use crate::table::Table;
@@ -49,6 +49,10 @@ pub fn pairs_belong_by_their_numbers()
     ensures names { BelongsByNumber name_codec }
     ensures files { BelongsByNumber file_codec }
     ensures extents { BelongsByNumber extent_codec }
+    ensures rows { BelongsByNumber row_codec }
+    ensures places { BelongsByNumber place_codec }
+    ensures containers { BelongsByNumber container_codec }
+    ensures clusters { BelongsByNumber cluster_codec }
     ensures settings { BelongsByNumber settings_codec }
     ensures results { BelongsByNumber result_codec }
 {}
@@ -59,6 +63,10 @@ pub fn well_formed_maps_are_keyed()
     ensures names { (m : Map) → AllWellFormed m → IsKeyed name_codec m }
     ensures files { (m : Map) → AllWellFormed m → IsKeyed file_codec m }
     ensures extents { (m : Map) → AllWellFormed m → IsKeyed extent_codec m }
+    ensures rows { (m : Map) → AllWellFormed m → IsKeyed row_codec m }
+    ensures places { (m : Map) → AllWellFormed m → IsKeyed place_codec m }
+    ensures containers { (m : Map) → AllWellFormed m → IsKeyed container_codec m }
+    ensures clusters { (m : Map) → AllWellFormed m → IsKeyed cluster_codec m }
     ensures settings { (m : Map) → AllWellFormed m → IsKeyed settings_codec m }
     ensures results { (m : Map) → AllWellFormed m → IsKeyed result_codec m }
 {}

@@ -6,9 +6,6 @@ pub const MOST_KEY_BYTES: usize = 32;
 /// Room enough for a value of a [`Table`](crate::Table).
 pub const MOST_VALUE_BYTES: usize = 64;
 
-/// The longest name.
-pub const MOST_NAME_BYTES: usize = 255;
-
 /// Room enough for the key of a name.
 pub const MOST_NAME_KEY_BYTES: usize = 256;
 

@@ -3,7 +3,7 @@
 ghost use Rattle.std.specs.Prelude.{◌≡◌, ◌≤◌, ◌+◌, ◌++◌, ◌∷◌, length, take, drop, Some};
 ghost use Rattle.byteorder.specs.Endian.{big_bytes};
 ghost use Rattle.table_records.specs.Keys.{number_key, pair_key};
-ghost use Rattle.table_records.specs.Values.{number_at};
+ghost use Rattle.table_records.specs.Values.{number_at, digest_at as digest_in};
 
 use byteorder::{BigEndian, ByteOrder};
 
@@ -86,6 +86,36 @@ pub fn put_pair(out: &mut [u8], table: u8, id: u64, index: u32)
     put_pair_bytes(out, table, id, index);
 }
 
+/// The id and the number of a copy behind the number of a table.
+pub fn copy_key_of(bytes: &[u8], table: u8) -> Option<(u64, u8)>
+    ensures { result ≡ pair_key table 8 1 bytes.now }
+{
+    if bytes.len() != 10 || bytes[0] != table {
+        return None;
+    }
+    Some((BigEndian::read_u64(&bytes[1..]), bytes[9]))
+}
+
+/// Spells a key of ten bytes.
+pub fn put_copy_key(out: &mut [u8], table: u8, id: u64, copy: u8)
+    requires { 10 ≤ length out.old }
+    ensures { pair_key table 8 1 (take 10 out.new) ≡ Some (id, copy) }
+{
+    put_copy_key_bytes(out, table, id, copy);
+}
+
+/// The digest at a place, or zeros where the bytes end before.
+pub fn digest_at(bytes: &[u8], place: usize) -> [u8; 32]
+    requires { place ≤ 64 }
+    ensures { result ≡ digest_in place bytes.now }
+{
+    let mut digest = [0u8; 32];
+    if bytes.len() >= place + 32 {
+        digest.copy_from_slice(&bytes[place..place + 32]);
+    }
+    digest
+}
+
 fn put_number_bytes(out: &mut [u8], table: u8, id: u64)
     requires { 9 ≤ length out.old }
     ensures { out.new ≡ (table ∷ big_bytes 8 id) ++ drop 9 out.old }
@@ -101,4 +131,13 @@ fn put_pair_bytes(out: &mut [u8], table: u8, id: u64, index: u32)
     out[0] = table;
     BigEndian::write_u64(&mut out[1..], id);
     BigEndian::write_u32(&mut out[9..], index);
+}
+
+fn put_copy_key_bytes(out: &mut [u8], table: u8, id: u64, copy: u8)
+    requires { 10 ≤ length out.old }
+    ensures { out.new ≡ (table ∷ (big_bytes 8 id ++ big_bytes 1 copy)) ++ drop 10 out.old }
+{
+    out[0] = table;
+    BigEndian::write_u64(&mut out[1..], id);
+    out[9] = copy;
 }

@@ -4,6 +4,7 @@ ghost use Rattle.std.specs.Prelude.{◌≡◌, ◌↔◌, IsTrue};
 ghost use Rattle.table_records.specs.Tables.{name_codec, settings_codec};
 ghost use Rattle.table_records.specs.WellFormed.{IsWellFormed, is_of, shape_of};
 
+use crate::chunk_tables::{ClusterTable, ContainerTable, PlaceTable, RowTable};
 use crate::names::NameTable;
 use crate::settings::Settings;
 use crate::table::Table;
@@ -18,6 +19,10 @@ pub fn is_well_formed(key: &[u8], value: &[u8]) -> bool
         || is_name(key, value)
         || is_pair_of::<FileTable>(key, value)
         || is_pair_of::<ExtentTable>(key, value)
+        || is_pair_of::<RowTable>(key, value)
+        || is_pair_of::<PlaceTable>(key, value)
+        || is_pair_of::<ContainerTable>(key, value)
+        || is_pair_of::<ClusterTable>(key, value)
         || are_settings(key, value)
         || is_pair_of::<ResultTable>(key, value)
 }

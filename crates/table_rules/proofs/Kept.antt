@@ -9,7 +9,7 @@ use Rattle.byte_map.specs.Words.{Map, bytes_cmp}
 use Rattle.table_records.specs.Codecs.{typed, IsPairOf}
 use Rattle.table_records.specs.Keys.{single_cmp}
 use Rattle.table_records.specs.Laws.{find_typed}
-use Rattle.table_records.specs.Settings.{settings_in, settings_or_none, no_settings}
+use Rattle.table_records.specs.Settings.{settings_in, settings_or_empty, empty_settings}
 use Rattle.table_records.specs.Tables.{settings_codec}
 use Rattle.table_records.specs.WellFormed.{IsWellFormed, AllWellFormed}
 use Rattle.table_records.specs.declared.settings.Settings.{Settings}
@@ -17,7 +17,7 @@ use Rattle.table_records.proofs.Belongs.{belongs, settings_are_table}
 use Rattle.volume_inside.specs.Entries.{each_found}
 use Rattle.table_rules.proofs.Eaches.{pairs_of_spelled}
 
-some_again : (o : Option Settings) → IsTrue (is_some o) → o ≡ Some (unwrap_or o no_settings)
+some_again : (o : Option Settings) → IsTrue (is_some o) → o ≡ Some (unwrap_or o empty_settings)
 some_again None some = absurd (false≢true some)
 some_again (Some s) some = refl
 
@@ -27,9 +27,9 @@ stored_there m value spelled there =
     let pair : IsPairOf settings_codec (9 ∷ []) value =
     belongs settings_codec settings_are_table (9 ∷ []) value (each_found bytes_cmp exact_bytes IsWellFormed (9 ∷ []) value m there (pairs_of_spelled m spelled)) refl in
     some_again (settings_in value) pair.whole
-    ∙ ap (λ (o : Option (List ℕ)). option_map settings_or_none o) (sym there)
+    ∙ ap (λ (o : Option (List ℕ)). option_map settings_or_empty o) (sym there)
     ∙ sym (find_typed settings_codec (9 ∷ []) tt refl m)
 
 pub none_there : (m : Map) → find bytes_cmp (9 ∷ []) m ≡ None → None ≡ find single_cmp tt (typed settings_codec m)
 none_there m there =
-    ap (λ (o : Option (List ℕ)). option_map settings_or_none o) (sym there) ∙ sym (find_typed settings_codec (9 ∷ []) tt refl m)
+    ap (λ (o : Option (List ℕ)). option_map settings_or_empty o) (sym there) ∙ sym (find_typed settings_codec (9 ∷ []) tt refl m)

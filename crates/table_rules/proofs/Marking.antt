@@ -8,27 +8,26 @@ use Rattle.cluster_space.specs.declared.state.State.{State}
 use Rattle.cluster_space.specs.declared.state.State.TheVariants.{Free, Used}
 use Rattle.cluster_space.specs.States.{IsIn}
 use Rattle.table_records.specs.Codecs.{typed, with_key}
-use Rattle.table_records.specs.Tables.{extent_codec}
+use Rattle.std.specs.Option.{option_map}
+use Rattle.table_records.specs.Tables.{extent_codec, cluster_codec}
+use Rattle.table_records.specs.Values.{extent_in, cluster_in}
+use Rattle.table_records.specs.declared.records.FileRecord.{FileRecord}
+use Rattle.volume_inside.specs.ChunkTables.{PageKey}
+use Rattle.volume_inside.specs.Entries.{Each}
+use Rattle.volume_inside.specs.Pages.{page_clusters}
 use Rattle.table_records.specs.declared.records.Extent.{Extent}
-use Rattle.volume_inside.specs.Layout.{first_data_cluster, data_clusters, AreData}
+use Rattle.volume_inside.specs.Layout.{first_data_cluster, data_clusters, IsDataCluster, AreData}
 use Rattle.volume_inside.specs.Lists.{IsOut, IsOnce}
 use Rattle.volume_inside.specs.Named.{extent_clusters, clusters_of}
 use Rattle.volume_inside.specs.Rules.{ExtentsHold}
 use Rattle.volume_inside.specs.Typed.{Typed, FileBlock}
-use Rattle.table_rules.specs.Marks.{cluster_when, cluster_in_pair, marked, CanMark, AllUsed, IsFilled}
+use Rattle.table_rules.specs.Marks.{list_of, clusters_in, extent_in_pair, page_in_pair, marked, CanMark, AllUsed, IsFilled}
 
 -- ---- a walk, of which so much is left
 
-first_cluster : (k v : List ℕ) (rest : Map) → extent_clusters (typed extent_codec ((k, v) ∷ rest)) ≡ cluster_in_pair k v ++ extent_clusters (typed extent_codec rest)
-first_cluster k v rest =
-    elim (extent_codec.read_key k) as (λ o. extent_clusters (with_key extent_codec o v (typed extent_codec rest)) ≡ cluster_when o v ++ extent_clusters (typed extent_codec rest)) [
-      | None ↦ refl
-      | Some key ↦ refl
-    ]
-
-pub next_clusters : (left : Map) (k v : List ℕ) (rest : Map) → left ≡ (k, v) ∷ rest
-    → extent_clusters (typed extent_codec left) ≡ cluster_in_pair k v ++ extent_clusters (typed extent_codec rest)
-next_clusters left k v rest is = ap (λ (m : Map). extent_clusters (typed extent_codec m)) is ∙ first_cluster k v rest
+pub next_clusters : (in_pair : List ℕ → List ℕ → List ℕ) (left : Map) (k v : List ℕ) (rest : Map) → left ≡ (k, v) ∷ rest
+    → clusters_in in_pair left ≡ in_pair k v ++ clusters_in in_pair rest
+next_clusters in_pair left k v rest is = ap (clusters_in in_pair) is
 
 -- each of these stands from the first on
 abbrev AllFrom : ℕ → List ℕ → Type 0
@@ -36,13 +35,13 @@ AllFrom first [] = Unit {0}
 AllFrom first (c ∷ cs) = (first ≤ c) × AllFrom first cs
 
 module _ (first : ℕ) where
-  can_mark_joined : (xs ys : List ℕ) (s : List State) → CanMark first s (xs ++ ys) ↔ (CanMark first s xs × CanMark first (marked first xs s) ys)
+  pub can_mark_joined : (xs ys : List ℕ) (s : List State) → CanMark first s (xs ++ ys) ↔ (CanMark first s xs × CanMark first (marked first xs s) ys)
   can_mark_joined [] ys s = (λ can. (tt, can), λ both. both.1)
   can_mark_joined (x ∷ xs) ys s =
       let rest = can_mark_joined xs ys (slice_set s (x - first) Used) in
       (λ can. ((can.0, (rest.0 can.1).0), (rest.0 can.1).1), λ both. (both.0.0, rest.1 (both.0.1, both.1)))
 
-  marked_joined : (xs ys : List ℕ) (s : List State) → marked first (xs ++ ys) s ≡ marked first ys (marked first xs s)
+  pub marked_joined : (xs ys : List ℕ) (s : List State) → marked first (xs ++ ys) s ≡ marked first ys (marked first xs s)
   marked_joined [] ys s = refl
   marked_joined (x ∷ xs) ys s = marked_joined xs ys (slice_set s (x - first) Used)
 
@@ -178,13 +177,42 @@ fresh_filled n cs s are can is =
 
 -- ---- the clusters that tables name
 
-pub data_named : (n : ℕ) (t : Typed) → ExtentsHold n t.files t.extents → AreData n (extent_clusters t.extents)
-data_named n t hold = each t.extents hold
-  where
-    each : (es : List (FileBlock × Extent)) → ExtentsHold n t.files es → AreData n (extent_clusters es)
-    each [] hold = tt
-    each (e ∷ es) hold = (hold.0.in_data, each es hold.1)
+data_named : (n : ℕ) (files : List (ℕ × FileRecord)) (es : List (FileBlock × Extent)) → ExtentsHold n files es → AreData n (extent_clusters es)
+data_named n files [] hold = tt
+data_named n files (e ∷ es) hold = (hold.0.in_data, data_named n files es hold.1)
 
--- no other table names clusters
-pub clusters_are : (t : Typed) → extent_clusters t.extents ≡ clusters_of t
-clusters_are t = sym (append-nil (extent_clusters t.extents))
+data_both : (n : ℕ) (xs ys : List ℕ) → AreData n xs → AreData n ys → AreData n (xs ++ ys)
+data_both n [] ys one two = two
+data_both n (x ∷ xs) ys one two = (one.0, data_both n xs ys one.1 two)
+
+pub data_of_rules : (n : ℕ) (t : Typed) → ExtentsHold n t.files t.extents → AreData n (page_clusters t.chunks.clusters)
+    → AreData n (clusters_of t)
+data_of_rules n t extents pages =
+    data_both n (extent_clusters t.extents) (page_clusters t.chunks.clusters) (data_named n t.files t.extents extents) pages
+
+pub extents_in_pairs : (m : Map) → clusters_in extent_in_pair m ≡ extent_clusters (typed extent_codec m)
+extents_in_pairs [] = refl
+extents_in_pairs (e ∷ m) =
+    elim (extent_codec.read_key e.0) as (λ o. list_of (option_map (λ k. (extent_in e.1).cluster) o) ++ clusters_in extent_in_pair m
+    ≡ extent_clusters (with_key extent_codec o e.1 (typed extent_codec m))) [
+      | None ↦ extents_in_pairs m
+      | Some k ↦ ap (λ (cs : List ℕ). (extent_in e.1).cluster ∷ cs) (extents_in_pairs m)
+    ]
+
+pub pages_in_pairs : (m : Map) → clusters_in page_in_pair m ≡ page_clusters (typed cluster_codec m)
+pages_in_pairs [] = refl
+pages_in_pairs (e ∷ m) =
+    elim (cluster_codec.read_key e.0) as (λ o. list_of (option_map (λ k. cluster_in e.1) o) ++ clusters_in page_in_pair m
+    ≡ page_clusters (with_key cluster_codec o e.1 (typed cluster_codec m))) [
+      | None ↦ pages_in_pairs m
+      | Some k ↦ ap (λ (cs : List ℕ). cluster_in e.1 ∷ cs) (pages_in_pairs m)
+    ]
+
+-- pages that lie in data clusters, one by one
+pub data_of_each : (n : ℕ) (es : List (PageKey × ℕ)) → Each (λ (k : PageKey) (c : ℕ). IsDataCluster n c) es → AreData n (page_clusters es)
+data_of_each n [] each = tt
+data_of_each n (e ∷ es) each = (each.0, data_of_each n es each.1)
+
+pub each_of_data : (n : ℕ) (es : List (PageKey × ℕ)) → AreData n (page_clusters es) → Each (λ (k : PageKey) (c : ℕ). IsDataCluster n c) es
+each_of_data n [] are = tt
+each_of_data n (e ∷ es) are = (are.0, each_of_data n es are.1)

@@ -14,11 +14,19 @@ use Rattle.table_rules.specs.declared.records.Records.{Records}
 abbrev pub volume_record : ℕ → VolumeRecord
 volume_record next_id = record { version = 1; next_id = next_id }
 
+-- the result of a kind
 abbrev pub result_of : JobKind → LastResults → ResultRecord
 result_of Optimization r = r.optimization
 result_of GarbageCollection r = r.garbage_collection
 result_of Scrubbing r = r.scrubbing
 result_of Unoptimization r = r.unoptimization
+
+-- the results once that of a kind is this one
+abbrev pub with_result_of : JobKind → ResultRecord → LastResults → LastResults
+with_result_of Optimization end r = record r { optimization = end }
+with_result_of GarbageCollection end r = record r { garbage_collection = end }
+with_result_of Scrubbing end r = record r { scrubbing = end }
+with_result_of Unoptimization end r = record r { unoptimization = end }
 
 -- the tables have these records
 pub record AreRecordsOf (t : Typed) (r : Records) : Type 0 where

@@ -1,21 +1,31 @@
 -- Clusters that are marked used, one after the other.
-use Rattle.std.specs.Prelude.{◌≡◌, ◌<◌, ◌+◌, ◌-◌, ℕ, List, [], ◌∷◌, length, slice_set, Option, Some, None}
+use Rattle.std.specs.Prelude.{◌≡◌, ◌<◌, ◌+◌, ◌-◌, ℕ, List, [], ◌∷◌, ◌++◌, length, slice_set, Option, Some, None}
+use Rattle.std.specs.Option.{option_map}
+use Rattle.byte_map.specs.Words.{Map}
 use Rattle.cluster_space.specs.declared.state.State.{State}
 use Rattle.cluster_space.specs.declared.state.State.TheVariants.{Free, Used}
 use Rattle.cluster_space.specs.States.{IsIn}
-use Rattle.table_records.specs.Tables.{extent_codec}
-use Rattle.table_records.specs.Values.{extent_in}
+use Rattle.table_records.specs.Tables.{extent_codec, cluster_codec}
+use Rattle.table_records.specs.Values.{extent_in, cluster_in}
 use Rattle.volume_inside.specs.Layout.{first_data_cluster, data_clusters}
 use Rattle.volume_inside.specs.Lists.{IsOut}
-use Rattle.volume_inside.specs.Typed.{FileBlock}
 
-abbrev pub cluster_when : Option FileBlock → List ℕ → List ℕ
-cluster_when None value = []
-cluster_when (Some k) value = (extent_in value).cluster ∷ []
+abbrev pub list_of : Option ℕ → List ℕ
+list_of None = []
+list_of (Some c) = c ∷ []
 
 -- the cluster that a pair names, if it is an extent
-abbrev pub cluster_in_pair : List ℕ → List ℕ → List ℕ
-cluster_in_pair key value = cluster_when (extent_codec.read_key key) value
+abbrev pub extent_in_pair : List ℕ → List ℕ → List ℕ
+extent_in_pair key value = list_of (option_map (λ k. (extent_in value).cluster) (extent_codec.read_key key))
+
+-- the same, if it is a page of a container
+abbrev pub page_in_pair : List ℕ → List ℕ → List ℕ
+page_in_pair key value = list_of (option_map (λ k. cluster_in value) (cluster_codec.read_key key))
+
+-- the clusters that the pairs of a map name
+abbrev pub clusters_in : (List ℕ → List ℕ → List ℕ) → Map → List ℕ
+clusters_in in_pair [] = []
+clusters_in in_pair (e ∷ m) = in_pair e.0 e.1 ++ clusters_in in_pair m
 
 -- the states after these clusters were marked; states are of the clusters from the first on
 abbrev pub marked : ℕ → List ℕ → List State → List State

@@ -9,6 +9,7 @@ ghost use Rattle.table_rules.specs.Causes.{BreaksRecords, IsCause};
 ghost use Rattle.table_rules.specs.Found.{AreRecordsOf};
 ghost use Rattle.table_rules.specs.Marks.{IsFilled};
 
+use crate::chunks::{containers_hold, places_hold, redirects_hold, rows_hold};
 use crate::clusters::mark_clusters;
 use crate::entries::{extents_hold, files_hold};
 use crate::fault::TableFault;
@@ -62,6 +63,18 @@ pub fn check(alloc: Global, clusters: u32, map: &ByteMap) -> Result<Checked, Tab
     }
     if !extents_hold(map, clusters) {
         return Err(TableFault::Broken(5));
+    }
+    if !rows_hold(map, records.next_id) {
+        return Err(TableFault::Broken(6));
+    }
+    if !redirects_hold(map) {
+        return Err(TableFault::Broken(7));
+    }
+    if !places_hold(map) {
+        return Err(TableFault::Broken(8));
+    }
+    if !containers_hold(map, clusters, records.next_id) {
+        return Err(TableFault::Broken(9));
     }
     match mark_clusters(alloc, map, clusters)? {
         Some(space) => Ok(Checked { records, space }),

@@ -2,6 +2,7 @@
 #![tactic(auto)]
 
 mod checking;
+mod chunks;
 mod clusters;
 mod entries;
 mod fault;

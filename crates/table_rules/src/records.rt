@@ -8,7 +8,7 @@ ghost use Rattle.table_records.specs.Tables.{volume_codec};
 ghost use Rattle.table_records.specs.WellFormed.{AllWellFormed};
 ghost use Rattle.volume_inside.specs.Typed.{typed_of};
 ghost use Rattle.volume_inside.specs.Rules.{IsVolumeRecord, AreSettings, IsResultRecord, RecordsHold};
-ghost use Rattle.table_rules.specs.Found.{volume_record, AreRecordsOf, result_of};
+ghost use Rattle.table_rules.specs.Found.{volume_record, AreRecordsOf, result_of, with_result_of};
 ghost use Rattle.table_records.specs.declared.jobs.JobKind.{JobKind};
 
 use crate::lookup::get;
@@ -26,6 +26,30 @@ pub struct LastResults {
     pub garbage_collection: ResultRecord,
     pub scrubbing: ResultRecord,
     pub unoptimization: ResultRecord,
+}
+
+impl LastResults {
+    pub fn of(&self, kind: JobKind) -> ResultRecord
+        ensures { result ≡ result_of kind self.now }
+    {
+        match kind {
+            JobKind::Optimization => self.optimization,
+            JobKind::GarbageCollection => self.garbage_collection,
+            JobKind::Scrubbing => self.scrubbing,
+            JobKind::Unoptimization => self.unoptimization,
+        }
+    }
+
+    pub fn set(&mut self, kind: JobKind, end: ResultRecord)
+        ensures { self.new ≡ with_result_of kind end self.old }
+    {
+        match kind {
+            JobKind::Optimization => self.optimization = end,
+            JobKind::GarbageCollection => self.garbage_collection = end,
+            JobKind::Scrubbing => self.scrubbing = end,
+            JobKind::Unoptimization => self.unoptimization = end,
+        }
+    }
 }
 
 /// The records that each volume has.

@@ -15,8 +15,8 @@ use Rattle.volume_tables.specs.Log.{log_epoch, log_place}
 use Rattle.volume_tables.specs.Tables.{tables_now, due_of, would_wear}
 use Rattle.volume_tables.specs.declared.tables.Tables.{Tables}
 use Rattle.volume_tables.specs.Reads.{ReadsOnly}
-use Rattle.volume_tables.specs.Spending.{Spends}
-use Rattle.volume_core.specs.Bounds.{touched_by, changed_by, HasSpent, Adds}
+use Rattle.volume_tables.specs.Spending.{Spends, aside}
+use Rattle.volume_core.specs.Bounds.{touched_by, changed_by, HasSpent, AddsToSpent}
 use Rattle.volume_core.specs.Volumes.{clusters_in, stopped, Endures}
 use Rattle.volume_core.specs.declared.volume.Volume.{Volume as Mounted}
 use Rattle.volume_core.proofs.Bounds.{worn_late}
@@ -30,7 +30,7 @@ module _ {D : Type 0} {d : Ghosts D} where
     ids = let first = ap next_id_of now in omega (arith, first);
     epochs = omega (arith, epoch);
     worn = λ is. absurd (let clash : true ≡ false = sym is ∙ fresh in cc);
-    settings = ap (λ (t : Typed). t.settings) now;
+    same = ap aside now;
   }
 
   module _ (v w : Mounted D d) (call : Call) where
@@ -38,25 +38,25 @@ module _ {D : Type 0} {d : Ghosts D} where
     pub adds : length (clusters_of (tables_now w.tables))
         ≤ length (clusters_of (tables_now v.tables)) + touched_by call
         → next_id_of (tables_now w.tables) ≤ next_id_of (tables_now v.tables) + changed_by call
-        → (tables_now w.tables).settings ≡ (tables_now v.tables).settings
+        → aside (tables_now w.tables) ≡ aside (tables_now v.tables)
         → (stopped w ≡ false → log_epoch w.tables.log ≤ log_epoch v.tables.log + changed_by call)
-        → (stopped w ≡ false → w.tables.worn ≡ true → IsTrue (would_wear v.tables)) → Adds call v w
-    adds named drawn settings epoch worn b i has runs = record {
+        → (stopped w ≡ false → w.tables.worn ≡ true → IsTrue (would_wear v.tables)) → AddsToSpent call v w
+    adds named drawn same epoch worn b i has runs = record {
       clusters = omega (arith, named, has.clusters);
       ids = omega (arith, drawn, has.ids);
       epochs = let taken = epoch runs in omega (arith, taken, has.epochs);
       worn = λ is. let late = worn_late v b i has (worn runs is) in omega (arith, late);
-      settings = settings ∙ has.settings;
+      same = same ∙ has.same;
     }
 
     -- a call that left the tables and the journal as they were
     stays_add : tables_now w.tables ≡ tables_now v.tables → log_epoch w.tables.log ≡ log_epoch v.tables.log
-        → w.tables.worn ≡ v.tables.worn → Adds call v w
+        → w.tables.worn ≡ v.tables.worn → AddsToSpent call v w
     stays_add now epoch worn =
         adds
         (let same = ap (λ (t : Typed). length (clusters_of t)) now in omega (arith, same))
         (let same = ap next_id_of now in omega (arith, same))
-        (ap (λ (t : Typed). t.settings) now)
+        (ap aside now)
         (λ runs. omega (arith, epoch))
         (λ runs is. wears (sym worn ∙ is))
       where
@@ -66,27 +66,27 @@ module _ {D : Type 0} {d : Ghosts D} where
             && nat_eq (log_epoch v.tables.log) last_epoch)) was
 
     -- a call that only reads
-    pub reads_add : ReadsOnly v.tables w.tables → Adds call v w
+    pub reads_add : ReadsOnly v.tables w.tables → AddsToSpent call v w
     reads_add reads = let l = reads.leaves in stays_add reads.now l.epoch l.worn
 
     -- a call that did nothing
-    pub nothing_adds : w.tables ≡ v.tables → Adds call v w
+    pub nothing_adds : w.tables ≡ v.tables → AddsToSpent call v w
     nothing_adds same =
         stays_add (ap (λ (t : Tables D d). tables_now t) same) (ap (λ (t : Tables D d). log_epoch t.log) same)
         (ap (λ (t : Tables D d). t.worn) same)
 
     -- a call that may draw an id and take an epoch
     pub changes_add : (ids : ℕ) → ids ≤ changed_by call → changed_by call ≡ 1
-        → Spends (touched_by call) ids v.tables w.tables → Endures v w → Adds call v w
+        → Spends (touched_by call) ids v.tables w.tables → Endures v w → AddsToSpent call v w
     changes_add ids few one spends endures =
-        adds spends.named (let drawn = spends.drawn in omega (arith, drawn, few)) spends.settings
+        adds spends.named (let drawn = spends.drawn in omega (arith, drawn, few)) spends.same
         (λ runs. let epoch = endures.epoch runs in omega (arith, epoch, one)) endures.worn
 
     -- a commit
     pub commit_adds : changed_by call ≡ 1 → tables_now w.tables ≡ tables_now v.tables
         → (stopped w ≡ false → log_epoch w.tables.log ≤ log_epoch v.tables.log + 1)
-        → (stopped w ≡ false → w.tables.worn ≡ true → IsTrue (would_wear v.tables)) → Adds call v w
+        → (stopped w ≡ false → w.tables.worn ≡ true → IsTrue (would_wear v.tables)) → AddsToSpent call v w
     commit_adds one now epoch tires =
         adds (let same = ap (λ (t : Typed). length (clusters_of t)) now in omega (arith, same))
-        (let same = ap next_id_of now in omega (arith, same)) (ap (λ (t : Typed). t.settings) now)
+        (let same = ap next_id_of now in omega (arith, same)) (ap aside now)
         (λ runs. let taken = epoch runs in omega (arith, taken, one)) tires

@@ -9,7 +9,7 @@ use Rattle.std.specs.FinMap.{find}
 use Rattle.std.specs.FinMap.Entries.{is_sorted, below_all}
 use Rattle.std.specs.declared.cmp.Ordering.{Ordering}
 use Rattle.std.specs.declared.cmp.Ordering.TheVariants.{Less, Equal, Greater}
-use Rattle.std.proofs.Common.{zero, suc, sym, ap, ◌∙◌, subst, arith}
+use Rattle.std.proofs.Common.{zero, suc, sym, ap, ◌∙◌, subst, arith, length-append}
 use Rattle.std.proofs.lemmas.Bool.{eqb-true, ltb-true}
 use Rattle.std.proofs.lemmas.List.Filters.{length-filter_both}
 use Rattle.vdisk.specs.declared.disk.Disk.{Ghosts}
@@ -35,12 +35,14 @@ use Rattle.table_records.specs.declared.records.VolumeRecord.{VolumeRecord}
 use Rattle.volume_inside.specs.Entries.{Each}
 use Rattle.volume_inside.specs.Inside.{Inside}
 use Rattle.volume_inside.specs.Layout.{half_bytes}
-use Rattle.volume_inside.specs.Named.{extent_clusters}
+use Rattle.volume_inside.specs.Bases.{base_clusters}
+use Rattle.volume_inside.specs.Named.{extent_clusters, clusters_of}
 use Rattle.volume_inside.specs.Rules.{next_id_of}
 use Rattle.volume_inside.specs.Typed.{Typed, FileBlock}
 use Rattle.volume_inside.specs.View.{named_cells, view}
 use Rattle.volume_tables.specs.Log.{log_now, log_epoch, log_place}
 use Rattle.volume_tables.specs.Sizes.{name_bytes, setting_bytes}
+use Rattle.volume_tables.specs.Spending.{Aside}
 use Rattle.volume_tables.specs.Tables.{tables_now, inside_now, checkpoint_of, would_wear, due_of}
 use Rattle.volume_tables.proofs.Answers.{as_true}
 use Rattle.volume_tables.proofs.Keyed.{second_is}
@@ -122,9 +124,14 @@ shown_bytes : (i : Inside) (names : Names) → files_bytes (named_cells i names)
 shown_bytes i [] = refl
 shown_bytes i (e ∷ names) = let rest = shown_bytes i names in omega (arith, rest)
 
-clusters_count : (es : List (FileBlock × Extent)) → length (extent_clusters es ++ []) ≡ length es
-clusters_count [] = refl
-clusters_count (e ∷ es) = let rest = clusters_count es in omega (arith, rest)
+extents_count : (es : List (FileBlock × Extent)) → length (extent_clusters es) ≡ length es
+extents_count [] = refl
+extents_count (e ∷ es) = let rest = extents_count es in omega (arith, rest)
+
+clusters_count : (t : Typed) → length t.extents ≤ length (clusters_of t)
+clusters_count t =
+    let extents = extents_count t.extents in
+    omega (arith, extents, length-append (extent_clusters t.extents) (base_clusters t))
 
 missing_most : (t : Typed) (file first n : ℕ) → missing t file first n ≤ n
 missing_most t file first zero = omega arith
@@ -150,12 +157,31 @@ module _ {D : Type 0} {d : Ghosts D} (v : Mounted D d) (b i : ℕ) (has : HasSpe
       ap (λ (es : List (Unit {0} × VolumeRecord)). length es) v.tables.contents.volume in
       let four : length (typed result_codec (log_now v.tables.log)) ≡ 4 =
       ap (λ (es : List (JobKind × ResultRecord)). length es) v.tables.contents.ends_there in
-      let settings : setting_bytes (typed settings_codec (log_now v.tables.log)) ≡ 24 = ap setting_bytes has.settings in
+      let settings : setting_bytes (typed settings_codec (log_now v.tables.log)) ≡ 24 =
+      ap (λ (p : Aside). setting_bytes p.0) has.same in
+      let rows = ap (λ (p : Aside). length p.1.rows) has.same in
+      let places = ap (λ (p : Aside). length p.1.places) has.same in
+      let containers = ap (λ (p : Aside). length p.1.containers) has.same in
+      let pages = ap (λ (p : Aside). length p.1.clusters) has.same in
       let files : length (typed file_codec (log_now v.tables.log)) ≤ length (typed name_codec (log_now v.tables.log)) =
       files_named (typed file_codec (log_now v.tables.log)) (typed name_codec (log_now v.tables.log))
       (sorted_typed file_codec (log_now v.tables.log) (as_true v.tables.contents.sorted)) v.sound.rules.names.once in
-      let clusters = clusters_count (typed extent_codec (log_now v.tables.log)) in
-      omega (arith, told, one, four, settings, files, clusters, has.clusters, view_bytes)
+      let clusters = clusters_count (tables_now v.tables) in
+      omega (
+        arith,
+        told,
+        one,
+        four,
+        settings,
+        rows,
+        places,
+        containers,
+        pages,
+        files,
+        clusters,
+        has.clusters,
+        view_bytes,
+      )
 
   -- a commit is refused as worn only where the last epoch is taken
   pub worn_late : would_wear v.tables ≡ true → last_epoch ≤ i + 2

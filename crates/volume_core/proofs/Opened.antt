@@ -53,7 +53,8 @@ module _ {D : Type 0} {d : Ghosts D} (t : Tables D d) (rules : RulesHold (cluste
   all_left : (n : ℕ) → clusters_in t ≡ n → tables_now t ≡ fresh_tables → left_in (state_at t) ≡ data_clusters n
   all_left n clusters now =
       let left : left_in (state_at t) ≡ data_clusters n - 0 =
-      λ i. data_clusters (clusters i) - length (inside_at (now i) (disk_of t).image).blocks in
+      λ i. data_clusters (clusters i)
+      - (length (inside_at (now i) (disk_of t).image).blocks + length (inside_at (now i) (disk_of t).image).pages) in
       omega (arith, left)
 
   pub fresh_state : (n : ℕ) → clusters_in t ≡ n → tables_now t ≡ fresh_tables → log_epoch t.log ≡ 1

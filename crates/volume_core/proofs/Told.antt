@@ -5,7 +5,7 @@ use Rattle.std.specs.Prelude.{zero, suc, length, Option, Some, None, IsSome, ref
 use Rattle.std.specs.FinMap.{find}
 use Rattle.std.specs.Option.{option_map}
 use Rattle.std.specs.Ordering.{eq_by_cmp}
-use Rattle.std.proofs.Common.{ap, sym, ◌∙◌, subst, arith, length-take}
+use Rattle.std.proofs.Common.{ap, sym, ◌∙◌, subst, arith, length-append, length-take}
 use Rattle.vdisk.specs.Ranges.{length-part}
 use Rattle.vdisk.specs.declared.disk.Disk.{Ghosts}
 use Rattle.byte_map.specs.Words.{bytes_cmp}
@@ -20,12 +20,16 @@ use Rattle.table_records.specs.Codecs.{typed}
 use Rattle.table_records.specs.Keys.{pair_cmp}
 use Rattle.table_records.specs.Tables.{result_codec}
 use Rattle.table_records.specs.declared.jobs.JobKind.{JobKind}
+use Rattle.table_records.specs.declared.chunk_records.Place.{Place}
 use Rattle.table_records.specs.declared.records.Extent.{Extent}
 use Rattle.table_records.specs.declared.records.ResultRecord.{ResultRecord}
+use Rattle.volume_inside.specs.ChunkTables.{ChunkTables, CopyKey, PageKey}
+use Rattle.volume_inside.specs.Chunks.{copies_of}
+use Rattle.volume_inside.specs.Pages.{page_clusters}
 use Rattle.volume_inside.specs.Entries.{Each, each_weaker}
-use Rattle.volume_inside.specs.Inside.{cluster_bytes, block_of, blocks_of, inside_at}
+use Rattle.volume_inside.specs.Inside.{cluster_bytes, block_of, blocks_of, pages_in, inside_at}
 use Rattle.volume_inside.specs.Layout.{half_bytes, data_clusters}
-use Rattle.volume_inside.specs.Named.{extent_clusters}
+use Rattle.volume_inside.specs.Named.{extent_clusters, clusters_of}
 use Rattle.volume_inside.specs.Rules.{next_id_of, ExtentHolds}
 use Rattle.volume_inside.specs.Typed.{Typed, FileBlock}
 use Rattle.volume_tables.specs.Log.{log_now}
@@ -36,9 +40,9 @@ use Rattle.volume_tables.proofs.Measured.{measured}
 use Rattle.volume_tables.specs.Wants.{Needs, wanting, has_room, free_of, last_id, IsReplied, IsRepliedOrMemory}
 use Rattle.volume_files.specs.Lengths.{for_file, length_of, length_wants}
 use Rattle.volume_files.specs.Needs.{create_needs, rename_needs, delete_needs, write_needs, length_needs}
-use Rattle.volume_files.specs.Needs.{missing, one_if_none, is_cut, first_touched, touched}
+use Rattle.volume_files.specs.Needs.{missing, one_if_none, names_more, first_touched, touched}
 use Rattle.volume_files.specs.Writing.{write_wants, ReadsFirst}
-use Rattle.volume_core.specs.States.{extents_told, tables_told, left_in, wanting_in, write_wants_in, length_wants_in}
+use Rattle.volume_core.specs.States.{extents_told, places_told, pages_told, tables_told, left_in, wanting_in, write_wants_in, length_wants_in}
 use Rattle.volume_core.specs.States.{state_at, state_of}
 use Rattle.volume_core.specs.Volumes.{view_now}
 use Rattle.volume_core.specs.Moves.{ReadsABlock}
@@ -63,10 +67,30 @@ told_length : (es : List (FileBlock × Extent)) (image : List ℕ)
 told_length [] image = refl
 told_length (e ∷ es) image = ap (λ (n : ℕ). suc n) (told_length es image)
 
-clusters_count : (es : List (FileBlock × Extent)) (image : List ℕ)
-    → length (blocks_of es image) ≡ length (extent_clusters es ++ [])
-clusters_count [] image = refl
-clusters_count (e ∷ es) image = ap (λ (n : ℕ). suc n) (clusters_count es image)
+places_length : (t : ChunkTables) (ps : List (CopyKey × Place)) (image : List ℕ)
+    → length (places_told (copies_of t ps image)) ≡ length ps
+places_length t [] image = refl
+places_length t (p ∷ ps) image = ap (λ (n : ℕ). suc n) (places_length t ps image)
+
+pages_length : (es : List (PageKey × ℕ)) → length (pages_told (pages_in es)) ≡ length es
+pages_length [] = refl
+pages_length (e ∷ es) = ap (λ (n : ℕ). suc n) (pages_length es)
+
+blocks_count : (es : List (FileBlock × Extent)) (image : List ℕ)
+    → length (blocks_of es image) ≡ length (extent_clusters es)
+blocks_count [] image = refl
+blocks_count (e ∷ es) image = ap (λ (n : ℕ). suc n) (blocks_count es image)
+
+pages_count : (es : List (PageKey × ℕ)) → length (pages_in es) ≡ length (page_clusters es)
+pages_count [] = refl
+pages_count (e ∷ es) = ap (λ (n : ℕ). suc n) (pages_count es)
+
+clusters_count : (t : Typed) (image : List ℕ)
+    → length (blocks_of t.extents image) + length (pages_in t.chunks.clusters) ≡ length (clusters_of t)
+clusters_count t image =
+    let blocks = blocks_count t.extents image in
+    let pages = pages_count t.chunks.clusters in
+    omega (arith, blocks, pages, length-append (extent_clusters t.extents) (page_clusters t.chunks.clusters))
 
 abbrev valid_of : Option Extent → Option ℕ
 valid_of o = option_map (λ (e : Extent). e.valid) o
@@ -103,7 +127,7 @@ abbrev cut_by : ℕ → Option ℕ → Bool
 cut_by rest None = false
 cut_by rest (Some valid) = nat_lt 0 rest && nat_lt rest valid
 
-cut_by_valid : (rest : ℕ) (o : Option Extent) → cut_by rest (valid_of o) ≡ is_cut rest o
+cut_by_valid : (rest : ℕ) (o : Option Extent) → cut_by rest (valid_of o) ≡ names_more rest o
 cut_by_valid rest None = refl
 cut_by_valid rest (Some e) = refl
 
@@ -119,8 +143,8 @@ module _ (t : Typed) (image : List ℕ) (sized : Each (IsSized image) t.extents)
       ∙ none_by_valid (find pair_cmp (file, first) t.extents) in
       λ i. here i + missing_told file (first + 1) n i
 
-  cut_told : (rest : ℕ) (k : FileBlock) → is_cut rest (find pair_cmp k (extents_told (blocks_of t.extents image)))
-      ≡ is_cut rest (find pair_cmp k t.extents)
+  cut_told : (rest : ℕ) (k : FileBlock) → names_more rest (find pair_cmp k (extents_told (blocks_of t.extents image)))
+      ≡ names_more rest (find pair_cmp k t.extents)
   cut_told rest k =
       sym (cut_by_valid rest (find pair_cmp k (extents_told (blocks_of t.extents image))))
       ∙ ap (cut_by rest) (found_told k t.extents image sized)
@@ -169,7 +193,7 @@ module _ {D : Type 0} {d : Ghosts D} where
 
   pub left_told : (t : Tables D d) → left_in (state_at t) ≡ free_of t
   left_told t = ap (λ (n : ℕ). data_clusters (clusters_in t) - n)
-      (clusters_count (tables_now t).extents (disk_of t).image)
+      (clusters_count (tables_now t) (disk_of t).image)
 
   module _ (v : Mounted D d) where
     pub sized : Each (IsSized (disk_of v.tables).image) (tables_now v.tables).extents
@@ -188,6 +212,8 @@ module _ {D : Type 0} {d : Ghosts D} where
           (measured (log_now t.log) t.contents.spelled).1,
           four,
           told_length (tables_now t).extents (disk_of t).image,
+          places_length (tables_now t).chunks (tables_now t).chunks.places (disk_of t).image,
+          pages_length (tables_now t).chunks.clusters,
         )
 
     wanting_told : (n : Needs) → wanting_in (state_of v) n ≡ wanting v.tables n

@@ -14,6 +14,7 @@ use Rattle.volume_inside.specs.Layout.{half_bytes, data_clusters}
 use Rattle.volume_inside.specs.Named.{clusters_of}
 use Rattle.volume_inside.specs.Rules.{next_id_of}
 use Rattle.volume_tables.specs.Log.{log_epoch}
+use Rattle.volume_tables.specs.Spending.{aside}
 use Rattle.volume_tables.specs.Tables.{tables_now}
 use Rattle.volume_files.specs.Needs.{touched_at}
 use Rattle.volume_core.specs.Volumes.{tables_of, clusters_in, view_now, stopped}
@@ -88,13 +89,13 @@ IsSpentIn worn n files b call Memory = ⊥
 module _ {D : Type 0} {d : Ghosts D} where
   -- What a volume has spent: the tables name b clusters at most; i ids at most were drawn, and as many epochs taken
   -- beside the two of its making; a commit was refused for want of an epoch only where these reach the last one; and
-  -- the settings are those of a fresh volume.
+  -- the settings and the tables of chunks are those of a fresh volume.
   pub record HasSpent (v : Mounted D d) (b i : ℕ) : Type 0 where
     pub clusters : length (clusters_of (tables_now (tables_of v))) ≤ b
     pub ids : next_id_of (tables_now (tables_of v)) ≤ i + 1
     pub epochs : log_epoch (tables_of v).log ≤ i + 2
     pub worn : (tables_of v).worn ≡ true → last_epoch ≤ i + 2
-    pub settings : (tables_now (tables_of v)).settings ≡ fresh_tables.settings
+    pub same : aside (tables_now (tables_of v)) ≡ aside fresh_tables
 
   -- the same of a mounted volume that has spent so much: ids and epochs are used up after 2^48 - 2 calls that change,
   -- and no sooner
@@ -102,6 +103,6 @@ module _ {D : Type 0} {d : Ghosts D} where
   IsSpent v b i = IsSpentIn (2 ^ 48 - 2 ≤ i) (clusters_in v) (view_now v) b
 
   -- WHAT A CALL ADDS to what was spent, unless it stops the volume
-  abbrev pub Adds : Call → Mounted D d → Mounted D d → Type 0
-  Adds call old new = (b i : ℕ) → HasSpent old b i → stopped new ≡ false
+  abbrev pub AddsToSpent : Call → Mounted D d → Mounted D d → Type 0
+  AddsToSpent call old new = (b i : ℕ) → HasSpent old b i → stopped new ≡ false
       → HasSpent new (b + touched_by call) (i + changed_by call)

@@ -16,7 +16,7 @@ use Rattle.volume_files.specs.Needs.{create_needs, rename_needs, delete_needs, w
 use Rattle.volume_files.specs.Needs.{create_bytes, rename_bytes, delete_bytes, write_bytes}
 use Rattle.volume_files.specs.Writing.{ReadsFirst}
 use Rattle.volume_core.specs.Bounds.{changed_by}
-use Rattle.volume_core.specs.States.{VolumeState, file_in, tables_told, wears_at, committed_in, done_in, worn_in}
+use Rattle.volume_core.specs.States.{VolumeState, id_of_name, tables_told, wears_at, committed_in, done_in, worn_in}
 
 -- what an answered call leaves of an inside: a call that reads leaves all, and so does a flush
 abbrev pub inside_done : Call → Inside → Inside
@@ -57,9 +57,9 @@ id_resized_in s id len =
 -- its records, behind a commit where these find no room; and one that reads leaves all.
 abbrev pub pending_done : Call → VolumeState → Pending
 pending_done (Create name) s = done_in s (create_needs name) (create_bytes name)
-pending_done (Write name at bytes) s = of_file s (file_in s name) (λ id. id_written_in s id at bytes)
-pending_done (SetLength name len) s = of_file s (file_in s name) (λ id. id_resized_in s id len)
-pending_done (Rename from to) s = of_file s (file_in s from)
+pending_done (Write name at bytes) s = of_file s (id_of_name s name) (λ id. id_written_in s id at bytes)
+pending_done (SetLength name len) s = of_file s (id_of_name s name) (λ id. id_resized_in s id len)
+pending_done (Rename from to) s = of_file s (id_of_name s from)
     (λ id. done_in s (rename_needs from to) (rename_bytes s.inside.names from to id))
 pending_done (Delete name) s = done_in s (delete_needs name) (delete_bytes s.inside.names name)
 pending_done Flush s = committed_in s
@@ -115,5 +115,5 @@ pub record Moves (call : Call) (given : Reply) (old new : VolumeState) : Type 0 
 -- a write of so many bytes at a place of the file of a name reads a block first, of which it fills a part
 pub record ReadsABlock (name : List ℕ) (at count : ℕ) (s : VolumeState) : Type 0 where
   pub id : ℕ
-  pub named : file_in s name ≡ Some id
+  pub named : id_of_name s name ≡ Some id
   pub reads : ReadsFirst id at at count (tables_told s.inside)

@@ -37,5 +37,5 @@ module _ {D : Type 0} {d : Ghosts D} where
       IsRepliedOrMemory (plain (view_now old) call) (wants_of old call) (disk_of old).faults (disk_of new).faults given
 
   -- the volume after a call is what the plain machine leaves after this reply
-  abbrev pub Leaves : Call → Mounted D d → Mounted D d → Reply → Type 0
-  Leaves call old new given = view_now new ≡ after (view_now old) call given
+  abbrev pub FollowsPlain : Call → Mounted D d → Mounted D d → Reply → Type 0
+  FollowsPlain call old new given = view_now new ≡ after (view_now old) call given

@@ -10,18 +10,13 @@ use Rattle.table_records.specs.declared.records.Extent.{Extent}
 use Rattle.table_records.specs.declared.records.ResultRecord.{ResultRecord}
 use Rattle.table_records.specs.declared.settings.Settings.{Settings}
 use Rattle.volume_inside.specs.Typed.{Typed, FileBlock}
-use Rattle.volume_inside.specs.Entries.{Each}
+use Rattle.volume_inside.specs.RuleProps.{each_prop, chunks_prop}
 use Rattle.volume_inside.specs.Lists.{IsOut, IsOnce}
 use Rattle.volume_inside.specs.Rules.{IsVolumeRecord, AreSettings, IsResultRecord, RecordsHold, NameHolds}
 use Rattle.volume_inside.specs.Rules.{IsNamedOnce, NamesHold, FileHolds, FilesHold, LiesIn, ExtentHolds, ExtentsHold}
 use Rattle.volume_inside.specs.Rules.{RulesHold}
 use Rattle.volume_tables.specs.Sound.{IsSound}
 use Rattle.volume_tables.specs.declared.tables.Tables.{Tables}
-
-each_prop : {K V : Type 0} (P : K → V → Type 0) → ((k : K) (v : V) → IsProp (P k v)) → (es : List (K × V))
-    → IsProp (Each P es)
-each_prop P one [] = Unit-prop
-each_prop P one (e ∷ es) = ×_prop (one e.0 e.1) (each_prop P one es)
 
 volume_record_prop : (v : VolumeRecord) → IsProp (IsVolumeRecord v)
 volume_record_prop v = Prim.hlevel props
@@ -78,7 +73,7 @@ once_prop [] = Unit-prop
 once_prop (x ∷ xs) = ×_prop (out_prop x xs) (once_prop xs)
 
 rules_prop : (n : ℕ) (t : Typed) → IsProp (RulesHold n t)
-rules_prop n t = Prim.hlevel (props, records_prop, names_prop, files_prop, extents_prop, once_prop)
+rules_prop n t = Prim.hlevel (props, records_prop, names_prop, files_prop, extents_prop, chunks_prop, once_prop)
 
 module _ {D : Type 0} {d : Ghosts D} where
   pub sound_prop : (t : Tables D d) → IsProp (IsSound t)

@@ -12,7 +12,9 @@ use Rattle.plain_volume.specs.declared.call.Call.TheVariants.{Create, Write, Set
 use Rattle.plain_volume.specs.declared.call.Call.TheVariants.{Stat, Next, Flush}
 use Rattle.plain_volume.specs.declared.call.Fault.{Fault}
 use Rattle.plain_volume.specs.declared.call.Fault.TheVariants.{Worn, TableFull, Full}
+use Rattle.table_records.specs.declared.chunk_records.Place.{Place}
 use Rattle.table_records.specs.declared.records.Extent.{Extent}
+use Rattle.volume_inside.specs.ChunkTables.{CopyKey, PageKey}
 use Rattle.volume_inside.specs.Fresh.{fresh_tables}
 use Rattle.volume_inside.specs.Inside.{Inside, inside_at}
 use Rattle.volume_inside.specs.InsideOf.{InsideOf}
@@ -41,8 +43,8 @@ pub record VolumeState : Type 0 where
   pub pending : Pending
 
 -- the plain volume in a state
-abbrev pub volume_in : VolumeState → Volume
-volume_in s = view s.inside
+abbrev pub plain_in : VolumeState → Volume
+plain_in s = view s.inside
 
 -- ---- what is wanting in a state
 
@@ -50,20 +52,37 @@ abbrev pub extents_told : List (FileBlock × List ℕ) → List (FileBlock × Ex
 extents_told [] = []
 extents_told (e ∷ blocks) = (e.0, record { cluster = 0; valid = length e.1 }) ∷ extents_told blocks
 
--- the tables that an inside tells: each block is an extent of its bytes, whose cluster is not told
+-- the copies of rows, whose places are not told
+abbrev pub places_told : List (CopyKey × List ℕ) → List (CopyKey × Place)
+places_told [] = []
+places_told (e ∷ copies) = (e.0, record { container = 0; offset = 0 }) ∷ places_told copies
+
+-- the pages of containers, whose clusters are not told
+abbrev pub pages_told : List PageKey → List (PageKey × ℕ)
+pages_told [] = []
+pages_told (k ∷ pages) = (k, 0) ∷ pages_told pages
+
+-- the tables that an inside tells: each block is an extent of its bytes, whose cluster is not told, and no place of a
+-- copy or a page is
 abbrev pub tables_told : Inside → Typed
 tables_told i = record {
   volume = i.volume;
   names = i.names;
   files = i.files;
   extents = extents_told i.blocks;
+  chunks = record {
+    rows = i.bases.rows;
+    places = places_told i.bases.copies;
+    containers = i.containers;
+    clusters = pages_told i.pages;
+  };
   settings = i.settings;
   results = i.results;
 }
 
--- the data clusters that no block takes
+-- the data clusters that no block and no page of a container takes
 abbrev pub left_in : VolumeState → ℕ
-left_in s = data_clusters s.clusters - length s.inside.blocks
+left_in s = data_clusters s.clusters - (length s.inside.blocks + length s.inside.pages)
 
 -- a commit in a state is refused as worn
 abbrev pub wears_at : VolumeState → Bool
@@ -79,8 +98,8 @@ wanting_in s n =
     (cond (not (finds_room s.pending n) && wears_at s) (Some Worn) None)))
 
 -- the file that a name has
-abbrev pub file_in : VolumeState → List ℕ → Option ℕ
-file_in s name = find bytes_cmp name s.inside.names
+abbrev pub id_of_name : VolumeState → List ℕ → Option ℕ
+id_of_name s name = find bytes_cmp name s.inside.names
 
 abbrev pub write_wants_in : VolumeState → ℕ → ℕ → List ℕ → Option Fault
 write_wants_in s file at [] = None
@@ -94,8 +113,8 @@ length_wants_in s file len =
 -- WHAT EACH CALL WANTS in a state: an id, room in the tables, clusters, or an epoch, where one is at its end
 abbrev pub wants_in : VolumeState → Call → Option Fault
 wants_in s (Create name) = wanting_in s (create_needs name)
-wants_in s (Write name at bytes) = for_file (file_in s name) (λ file. write_wants_in s file at bytes)
-wants_in s (SetLength name len) = for_file (file_in s name) (λ file. length_wants_in s file len)
+wants_in s (Write name at bytes) = for_file (id_of_name s name) (λ file. write_wants_in s file at bytes)
+wants_in s (SetLength name len) = for_file (id_of_name s name) (λ file. length_wants_in s file len)
 wants_in s (Rename from to) = wanting_in s (rename_needs from to)
 wants_in s (Delete name) = wanting_in s (delete_needs name)
 wants_in s Flush = cond (wears_at s) (Some Worn) None
@@ -144,7 +163,7 @@ module _ {D : Type 0} {d : Ghosts D} where
   state_of v = state_at (tables_of v)
 
 -- THE STATE OF AN IMAGE, which fixes it: its number of clusters and its inside; its journal's epoch and where the groups
--- of the live half end; and nothing that waits for a commit, where all clusters that no block takes are free
+-- of the live half end; and nothing that waits for a commit, where all clusters that no block or page takes are free
 pub record IsStateOf (image : List ℕ) (s : VolumeState) : Type 0 where
   pub clusters : length image ≡ 4096 * s.clusters
   pub inside : InsideOf read_meta image (Ok s.inside)

@@ -16,16 +16,16 @@ impl<D: Disk> Volume<D> {
     ghost use Rattle.volume_core.specs.States.{state_of};
     ghost use Rattle.volume_core.specs.Moves.{Moves, ReadsABlock};
     ghost use Rattle.volume_core.specs.Wants.{wants_of, IsWant};
-    ghost use Rattle.volume_core.specs.Bounds.{Adds};
-    ghost use Rattle.volume_core.specs.Replies.{Replies, RepliesOrMemory, Leaves};
+    ghost use Rattle.volume_core.specs.Bounds.{AddsToSpent};
+    ghost use Rattle.volume_core.specs.Replies.{Replies, RepliesOrMemory, FollowsPlain};
 
     /// Makes an empty file.
     pub fn create(&mut self, name: &[u8]) -> Result<(), Fault>
         requires running { stopped self.old ≡ false }
         ensures reply { RepliesOrMemory (Create name.now) self.old self.new (done_reply result) }
-        ensures left { Leaves (Create name.now) self.old self.new (done_reply result) }
+        ensures left { FollowsPlain (Create name.now) self.old self.new (done_reply result) }
         ensures endures { Endures self.old self.new }
-        ensures adds { Adds (Create name.now) self.old self.new }
+        ensures adds { AddsToSpent (Create name.now) self.old self.new }
         ensures stops { stopped self.new ≡ true → IsErrOf result Fault.Failed }
         ensures moves { Moves (Create name.now) (done_reply result) (state_of self.old) (state_of self.new) }
         ensures halts { IsErrOf result Fault.Failed → stopped self.new ≡ true }
@@ -40,10 +40,10 @@ impl<D: Disk> Volume<D> {
         requires running { stopped self.old ≡ false }
         ensures reply { RepliesOrMemory (Write name.now at bytes.now) self.old self.new (done_reply result) }
         ensures left { (w : PlainVolume) → IsKept self.old w →
-            Leaves (Write name.now at bytes.now) self.old self.new (done_reply result) }
+            FollowsPlain (Write name.now at bytes.now) self.old self.new (done_reply result) }
         ensures unchanged { OnErr result (view_now self.new ≡ view_now self.old) }
         ensures endures { Endures self.old self.new }
-        ensures adds { Adds (Write name.now at bytes.now) self.old self.new }
+        ensures adds { AddsToSpent (Write name.now at bytes.now) self.old self.new }
         ensures stops { stopped self.new ≡ true → IsErrOf result Fault.Failed }
         ensures moves { (w : PlainVolume) → IsKept self.old w →
             Moves (Write name.now at bytes.now) (done_reply result) (state_of self.old) (state_of self.new) }
@@ -60,9 +60,9 @@ impl<D: Disk> Volume<D> {
     pub fn set_length(&mut self, name: &[u8], length: u64) -> Result<(), Fault>
         requires running { stopped self.old ≡ false }
         ensures reply { Replies (SetLength name.now length) self.old self.new (done_reply result) }
-        ensures left { Leaves (SetLength name.now length) self.old self.new (done_reply result) }
+        ensures left { FollowsPlain (SetLength name.now length) self.old self.new (done_reply result) }
         ensures endures { Endures self.old self.new }
-        ensures adds { Adds (SetLength name.now length) self.old self.new }
+        ensures adds { AddsToSpent (SetLength name.now length) self.old self.new }
         ensures stops { stopped self.new ≡ true → IsErrOf result Fault.Failed }
         ensures moves { Moves (SetLength name.now length) (done_reply result) (state_of self.old) (state_of self.new) }
         ensures halts { IsErrOf result Fault.Failed → stopped self.new ≡ true }
@@ -76,9 +76,9 @@ impl<D: Disk> Volume<D> {
     pub fn rename(&mut self, from: &[u8], to: &[u8]) -> Result<(), Fault>
         requires running { stopped self.old ≡ false }
         ensures reply { RepliesOrMemory (Rename from.now to.now) self.old self.new (done_reply result) }
-        ensures left { Leaves (Rename from.now to.now) self.old self.new (done_reply result) }
+        ensures left { FollowsPlain (Rename from.now to.now) self.old self.new (done_reply result) }
         ensures endures { Endures self.old self.new }
-        ensures adds { Adds (Rename from.now to.now) self.old self.new }
+        ensures adds { AddsToSpent (Rename from.now to.now) self.old self.new }
         ensures stops { stopped self.new ≡ true → IsErrOf result Fault.Failed }
         ensures moves { Moves (Rename from.now to.now) (done_reply result) (state_of self.old) (state_of self.new) }
         ensures halts { IsErrOf result Fault.Failed → stopped self.new ≡ true }
@@ -92,9 +92,9 @@ impl<D: Disk> Volume<D> {
     pub fn delete(&mut self, name: &[u8]) -> Result<(), Fault>
         requires running { stopped self.old ≡ false }
         ensures reply { Replies (Delete name.now) self.old self.new (done_reply result) }
-        ensures left { Leaves (Delete name.now) self.old self.new (done_reply result) }
+        ensures left { FollowsPlain (Delete name.now) self.old self.new (done_reply result) }
         ensures endures { Endures self.old self.new }
-        ensures adds { Adds (Delete name.now) self.old self.new }
+        ensures adds { AddsToSpent (Delete name.now) self.old self.new }
         ensures stops { stopped self.new ≡ true → IsErrOf result Fault.Failed }
         ensures moves { Moves (Delete name.now) (done_reply result) (state_of self.old) (state_of self.new) }
         ensures halts { IsErrOf result Fault.Failed → stopped self.new ≡ true }

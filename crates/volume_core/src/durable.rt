@@ -15,15 +15,15 @@ impl<D: Disk> Volume<D> {
     ghost use Rattle.volume_core.specs.States.{state_of, IsStateOf};
     ghost use Rattle.volume_core.specs.Moves.{Moves};
     ghost use Rattle.volume_core.specs.Wants.{wants_of, IsWant};
-    ghost use Rattle.volume_core.specs.Bounds.{Adds};
-    ghost use Rattle.volume_core.specs.Replies.{Replies, Leaves};
+    ghost use Rattle.volume_core.specs.Bounds.{AddsToSpent};
+    ghost use Rattle.volume_core.specs.Replies.{Replies, FollowsPlain};
 
     /// Makes all calls so far durable. Where nothing is due, as after a flush that answered Ok, the disk is
     /// not called.
     pub fn flush(&mut self) -> Result<(), Fault>
         requires running { stopped self.old ≡ false }
         ensures reply { Replies Flush self.old self.new (done_reply result) }
-        ensures left { Leaves Flush self.old self.new (done_reply result) }
+        ensures left { FollowsPlain Flush self.old self.new (done_reply result) }
         ensures durable { (w : PlainVolume) → IsKept self.old w → OnOk result (IsKept self.new (view_now self.old)) }
         ensures moves { Moves Flush (done_reply result) (state_of self.old) (state_of self.new) }
         ensures stored { (w : PlainVolume) → IsKept self.old w →
@@ -31,7 +31,7 @@ impl<D: Disk> Volume<D> {
         ensures nothing_due { OnOk result (due_of self.new ≡ 0) }
         ensures idle { due_of self.old ≡ 0 → device_of self.new ≡ device_of self.old }
         ensures endures { Endures self.old self.new }
-        ensures adds { Adds Flush self.old self.new }
+        ensures adds { AddsToSpent Flush self.old self.new }
         ensures stops { stopped self.new ≡ true → IsErrOf result Fault.Failed }
         ensures halts { IsErrOf result Fault.Failed → stopped self.new ≡ true }
         ensures want { IsWant Flush (wants_of self.old Flush) }

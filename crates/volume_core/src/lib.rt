@@ -4,11 +4,10 @@
 mod changes;
 mod durable;
 mod hashing;
-mod laws;
+pub mod laws;
 mod opening;
 mod reads;
 mod volume;
 
-pub use laws::{volume_is_lawful, volumes_wear_at_the_last_epoch, what_is_wanting_is_spent};
 pub use volume::Volume;
 pub use volume_tables::MountFault;

@@ -17,7 +17,7 @@ use vdisk::Disk;
 use volume_files::{find_file, read_plain};
 
 /// As many bytes as the longest name of a file has.
-fn front(name: &[u8]) -> &[u8]
+fn name_front(name: &[u8]) -> &[u8]
     ensures { result.now ≡ take 255 name.now }
 {
     &name[..name.len().min(MOST_BYTES_OF_A_NAME)]
@@ -29,14 +29,14 @@ fn shortened<'a>(after: Option<&'a [u8]>) -> Option<&'a [u8]>
     ensures is { option_map (λ name. name.now) result ≡ option_map (λ name. take 255 name.now) after.entry }
 {
     match after {
-        Some(name) => Some(front(name)),
+        Some(name) => Some(name_front(name)),
         None => None,
     }
 }
 
 impl<D: Disk> Volume<D> {
     ghost use Rattle.volume_core.specs.Volumes.{disk_of, view_now, stopped, IsKept, Endures};
-    ghost use Rattle.volume_core.specs.Bounds.{Adds};
+    ghost use Rattle.volume_core.specs.Bounds.{AddsToSpent};
     ghost use Rattle.volume_core.specs.States.{state_of};
     ghost use Rattle.volume_core.specs.Moves.{Moves};
     ghost use Rattle.volume_core.specs.Replies.{Replies, digest_reply, length_reply, name_reply};
@@ -52,7 +52,7 @@ impl<D: Disk> Volume<D> {
             (state_of self.new) }
         ensures left { view_now self.new ≡ view_now self.old }
         ensures endures { Endures self.old self.new }
-        ensures adds { Adds (Read name.now at (length out.old)) self.old self.new }
+        ensures adds { AddsToSpent (Read name.now at (length out.old)) self.old self.new }
         ensures runs { stopped self.new ≡ false }
         ensures failed { IsErrOf result Fault.Failed → Rose (disk_of self.old).faults (disk_of self.new).faults }
     {
@@ -72,7 +72,7 @@ impl<D: Disk> Volume<D> {
         ensures moves { Moves (Digest name.now) (digest_reply result) (state_of self.old) (state_of self.new) }
         ensures left { view_now self.new ≡ view_now self.old }
         ensures endures { Endures self.old self.new }
-        ensures adds { Adds (Digest name.now) self.old self.new }
+        ensures adds { AddsToSpent (Digest name.now) self.old self.new }
         ensures runs { stopped self.new ≡ false }
         ensures failed { IsErrOf result Fault.Failed → Rose (disk_of self.old).faults (disk_of self.new).faults }
     {

@@ -1,5 +1,5 @@
 -- Clusters that were written ahead, in the steps of a write.
-use Rattle.std.specs.Prelude.{◌≡◌, ◌≤◌, ◌<◌, ◌+◌, ◌*◌, ◌-◌, ℕ, Bool, List, length, get_or, take, drop, Option, Result, Ok, Err, IfOk, if◌then◌else◌}
+use Rattle.std.specs.Prelude.{◌≡◌, ◌≤◌, ◌<◌, ◌+◌, ◌*◌, ◌-◌, ℕ, Bool, List, length, get_or, drop, Option, Result, Ok, Err, IfOk, if◌then◌else◌}
 use Rattle.std.proofs.Common.{sym, ◌∙◌, ap, subst, arith}
 use Rattle.std.proofs.lemmas.List.{get_or-take, get_or-drop}
 use Rattle.vdisk.specs.Ranges.{part, length-part, part_part}
@@ -13,7 +13,7 @@ use Rattle.volume_tables.specs.Clusters.{HasState}
 use Rattle.volume_tables.specs.Frames.{AreFree}
 use Rattle.volume_tables.specs.Tables.{disk_of, states_of}
 use Rattle.volume_tables.specs.declared.tables.Tables.{Tables}
-use Rattle.volume_files.specs.Writing.{laid, named_bytes, rest_of, AreAhead, AreFilled, HasLaid}
+use Rattle.volume_files.specs.Writing.{laid, named_bytes, without_first, AreAhead, AreFilled, HasLaid}
 use Rattle.volume_files.proofs.Overwritten.{within}
 
 laid_filled : (start at : ℕ) (bytes : List ℕ) (old o : ℕ) → at ≤ start → start + 4096 ≤ at + length bytes → o < 4096
@@ -42,7 +42,7 @@ module _ (start at : ℕ) (bytes : List ℕ) (run : Run) (image : List ℕ) wher
       ∙ laid_filled start at bytes (get_or (named_bytes was older) o 0) o (omega (arith, low)) (omega (arith, high)) under
 
   -- and the others are those of the blocks behind
-  pub rest_ahead : AreAhead start at bytes run image → AreAhead (start + 4096) at bytes (rest_of run) image
+  pub rest_ahead : AreAhead start at bytes run image → AreAhead (start + 4096) at bytes (without_first run) image
   rest_ahead ahead k low =
       let one : run.first + 1 + k ≡ run.first + (k + 1) = omega arith in
       let place : start + 4096 * (k + 1) - at ≡ start + 4096 + 4096 * k - at = omega arith in
@@ -104,7 +104,7 @@ module _ {D : Type 0} {d : Ghosts D} (t h : Tables D d) (run : Run) where
   -- once the first of them was taken, the others are free
   pub rest_free : ((c : ℕ) → (c ≡ run.first → ⊥) → HasState t.clusters (states_of t) Free c
       → HasState h.clusters (states_of h) Free c)
-      → AreFree t.clusters (states_of t) run → AreFree h.clusters (states_of h) (rest_of run)
+      → AreFree t.clusters (states_of t) run → AreFree h.clusters (states_of h) (without_first run)
   rest_free others free k low =
       let one : run.first + (k + 1) ≡ run.first + 1 + k = omega arith in
       others (run.first + 1 + k) (λ same. omega (arith, same))

@@ -1,6 +1,6 @@
 -- A block that was made anew, in the rules and in the inside.
 use Rattle.std.specs.Prelude.{◌≡◌, ◌≤◌, ◌+◌, ◌*◌, ℕ, Bool, cond, List, Option, Some, None, IfSome, Result, Ok, Err}
-use Rattle.std.specs.Prelude.{IfOk, OnErr, [], refl}
+use Rattle.std.specs.Prelude.{IfOk, OnErr, refl}
 use Rattle.std.proofs.Common.{sym, ◌∙◌, ap, subst, arith}
 use Rattle.std.specs.Ordering.{nat_cmp}
 use Rattle.std.specs.Cmp.{nat_cmp_total, unsigned_tied}
@@ -12,6 +12,7 @@ use Rattle.plain_volume.specs.declared.call.Fault.{Fault}
 use Rattle.table_records.specs.Keys.{pair_cmp}
 use Rattle.table_records.specs.declared.records.Extent.{Extent}
 use Rattle.table_records.specs.declared.records.FileRecord.{FileRecord}
+use Rattle.volume_inside.specs.Bases.{base_clusters}
 use Rattle.volume_inside.specs.Entries.{each_found}
 use Rattle.volume_inside.specs.Inside.{Inside, inside_at, block_of}
 use Rattle.volume_inside.specs.Layout.{IsDataCluster}
@@ -58,7 +59,7 @@ module _ {D : Type 0} {d : Ghosts D} (t s : Tables D d) (k : FileBlock) (grown :
       s.held.1.once in
       let found : find pair_cmp k (tables_now s).extents ≡ Some e = ap (λ (x : Typed). find pair_cmp k x.extents) set
       ∙ found_put k e (tables_now t).extents in
-      let in_data = data_found s.clusters k e (tables_now s).extents [] s.held.0 found in
+      let in_data = data_found s.clusters k e (tables_now s).extents (base_clusters (tables_now s)) s.held.0 found in
       let holds : ExtentHolds t.clusters q.files k e = record {
         in_file = subst (LiesIn k e) (sym (found_file k.0 grown (tables_now t).files)) reach;
         some_bytes = some;

@@ -1,6 +1,6 @@
 -- How many clusters are free, deferred or named, through changes of extents.
 use Rattle.std.specs.Prelude.{◌≡◌, ◌+◌, ◌-◌, ℕ, Bool, true, false, cond, not, if◌then◌else◌, List, [], ◌∷◌, length, is_some, slice_set, get_or, Option, Some, T, refl}
-use Rattle.std.proofs.Common.{sym, ◌∙◌, ap, arith, eq-eqb, length-append}
+use Rattle.std.proofs.Common.{sym, ◌∙◌, ap, arith, eq-eqb}
 use Rattle.std.specs.FinMap.{find, is_sorted}
 use Rattle.std.specs.FinMap.Entries.{put, where_key, length-put}
 use Rattle.std.proofs.lemmas.List.{set-get_or}
@@ -15,9 +15,10 @@ use Rattle.table_records.specs.Orders.{pair_total}
 use Rattle.table_records.specs.Tables.{extent_codec}
 use Rattle.table_records.specs.declared.records.Extent.{Extent}
 use Rattle.volume_inside.specs.Bases.{base_clusters}
+use Rattle.volume_files.proofs.Extents.{length-clusters}
 use Rattle.volume_inside.specs.Changes.{with_extent, keep_extents}
 use Rattle.volume_inside.specs.Layout.{first_data_cluster}
-use Rattle.volume_inside.specs.Named.{extent_clusters, clusters_of}
+use Rattle.volume_inside.specs.Named.{clusters_of}
 use Rattle.volume_inside.specs.Typed.{Typed, FileBlock, typed_of}
 use Rattle.volume_tables.specs.Clusters.{used_at, with_replaced, all_deferred}
 use Rattle.volume_tables.specs.Dropped.{AreUsedOnce}
@@ -73,15 +74,6 @@ length_parts test (e ∷ es) =
       | false ↦ omega (arith, rest)
     ]
 
-length_clusters : (es : List (FileBlock × Extent)) → length (extent_clusters es) ≡ length es
-length_clusters [] = refl
-length_clusters (e ∷ es) = omega (arith, length_clusters es)
-
--- tables name as many clusters as they have extents, and those of their bases
-length_named : (t : Typed) → length (clusters_of t) ≡ length t.extents + length (base_clusters t)
-length_named t = length-append (extent_clusters t.extents) (base_clusters t)
-    ∙ ap (λ (n : ℕ). n + length (base_clusters t)) (length_clusters t.extents)
-
 -- ---- calls
 
 module _ {D : Type 0} {d : Ghosts D} (t u : Tables D d) where
@@ -105,9 +97,9 @@ module _ {D : Type 0} {d : Ghosts D} (t u : Tables D d) where
       ap (λ (xs : List State). deferred_in xs) states ∙ counts.1 in
       let names : length (clusters_of (tables_now u)) ≡ length (where_key pair_cmp (λ k. not (test k)) es) + length
       (base_clusters (tables_now t)) =
-      ap (λ (x : Typed). length (clusters_of x)) now ∙ length_named q in
+      ap (λ (x : Typed). length (clusters_of x)) now ∙ length-clusters q in
       let named : length (clusters_of (tables_now t)) ≡ length es + length (base_clusters (tables_now t)) =
-      length_named (tables_now t) in
+      length-clusters (tables_now t) in
       (free, omega (arith, free, deferred, names, named, length_parts test es))
 
   -- an extent is set anew over its own cluster
@@ -137,9 +129,9 @@ module _ {D : Type 0} {d : Ghosts D} (t u : Tables D d) where
       ∙ ap (λ (was : Option Extent). cond (is_some was) (length es) (length es + 1)) found in
       let names : length (clusters_of (tables_now u)) ≡ length (put pair_cmp k e es) + length
       (base_clusters (tables_now t)) =
-      ap (λ (x : Typed). length (clusters_of x)) now ∙ length_named (with_extent k e (tables_now t)) in
+      ap (λ (x : Typed). length (clusters_of x)) now ∙ length-clusters (with_extent k e (tables_now t)) in
       let named : length (clusters_of (tables_now t)) ≡ length es + length (base_clusters (tables_now t)) =
-      length_named (tables_now t) in
+      length-clusters (tables_now t) in
       let free : free_in (states_of u) ≡ free_in (states_of t) = ap (λ (xs : List State). free_in xs) kept in
       let deferred : deferred_in (states_of u) ≡ deferred_in (states_of t) =
       ap (λ (xs : List State). deferred_in xs) kept in

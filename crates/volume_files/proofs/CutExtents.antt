@@ -26,7 +26,7 @@ use Rattle.groundwork.proofs.Bools.{first_true, second_true}
 use Rattle.volume_inside.proofs.Lawfuls.{rules_with_extent, rules_keep_extents, rules_with_file}
 use Rattle.volume_inside.proofs.Spaces.{spaced_same}
 use Rattle.volume_files.specs.Lengths.{cut_extent, with_extent_if, lies_behind, cut_if, resized_in}
-use Rattle.volume_files.specs.Needs.{is_cut}
+use Rattle.volume_files.specs.Needs.{names_more}
 
 pub exact_blocks : (a b : FileBlock) → pair_cmp a b ≡ Equal → a ≡ b
 exact_blocks = exact_pairs nat_cmp nat_cmp exact_unsigned exact_unsigned
@@ -136,7 +136,7 @@ cut_none rest o is = by (nat_lt 0 rest) (nat_lt rest o.valid) refl refl is
     by true true none some at = absurd
         (let e : Extent = record { cluster = o.cluster; valid = rest } in let clash : Some e ≡ None = at in cc)
 
-pub cut_is_cut : (rest : ℕ) (was : Option Extent) (e : Extent) → cut_extent rest was ≡ Some e → is_cut rest was ≡ true
+pub cut_is_cut : (rest : ℕ) (was : Option Extent) (e : Extent) → cut_extent rest was ≡ Some e → names_more rest was ≡ true
 cut_is_cut rest None e is = absurd (let clash : None ≡ Some e = is in cc)
 cut_is_cut rest (Some o) e is = by (nat_lt 0 rest && nat_lt rest o.valid) is
   where
@@ -144,7 +144,7 @@ cut_is_cut rest (Some o) e is = by (nat_lt 0 rest && nat_lt rest o.valid) is
     by true at = refl
     by false at = absurd (let clash : None ≡ Some e = at in cc)
 
-pub uncut_is_not : (rest : ℕ) (was : Option Extent) → cut_extent rest was ≡ None → is_cut rest was ≡ false
+pub uncut_is_not : (rest : ℕ) (was : Option Extent) → cut_extent rest was ≡ None → names_more rest was ≡ false
 uncut_is_not rest None is = refl
 uncut_is_not rest (Some o) is = by (nat_lt 0 rest && nat_lt rest o.valid) is
   where

@@ -1,7 +1,7 @@
 -- An extent that is put, and taken back.
 use Rattle.std.specs.Prelude.{◌≡◌, ◌⊎◌, ◌<◌, ◌+◌, ℕ, suc, Bool, true, false, not, cond, T, ◌&&◌, is_some, List, [], ◌∷◌}
-use Rattle.std.specs.Prelude.{◌++◌, length, Option, Some, None, refl}
-use Rattle.std.proofs.Common.{sym, ◌∙◌, ap, subst, inl, inr, arith}
+use Rattle.std.specs.Prelude.{length, Option, Some, None, refl}
+use Rattle.std.proofs.Common.{sym, ◌∙◌, ap, subst, inl, inr, arith, length-append}
 use Rattle.std.proofs.lemmas.Bool.{cases_lt, cases_eq}
 use Rattle.std.specs.declared.cmp.Ordering.{Ordering}
 use Rattle.std.specs.declared.cmp.Ordering.TheVariants.{Less, Equal, Greater}
@@ -15,6 +15,7 @@ use Rattle.table_records.specs.Changes.{is_in_range}
 use Rattle.table_records.specs.Keys.{pair_cmp}
 use Rattle.table_records.specs.Orders.{pair_total}
 use Rattle.table_records.specs.declared.records.Extent.{Extent}
+use Rattle.volume_inside.specs.Bases.{base_clusters}
 use Rattle.volume_inside.specs.Typed.{Typed, FileBlock}
 use Rattle.volume_inside.specs.Named.{extent_clusters, clusters_of}
 use Rattle.volume_inside.specs.Changes.{with_extent, keep_extents}
@@ -183,10 +184,13 @@ range_is_one k e es sorted found =
 
 -- ---- how many clusters are named
 
-pub length-clusters : (t : Typed) → length (clusters_of t) ≡ length t.extents
-length-clusters t = count t.extents
+-- tables name as many clusters as they have extents, and those of their bases
+pub length-clusters : (t : Typed) → length (clusters_of t) ≡ length t.extents + length (base_clusters t)
+length-clusters t =
+    length-append (extent_clusters t.extents) (base_clusters t)
+    ∙ ap (λ (n : ℕ). n + length (base_clusters t)) (count t.extents)
   where
-    count : (es : Entries) → length (extent_clusters es ++ []) ≡ length es
+    count : (es : Entries) → length (extent_clusters es) ≡ length es
     count [] = refl
     count (e ∷ es) = ap suc (count es)
 
@@ -194,17 +198,23 @@ pub count_put_new : (k : FileBlock) (e : Extent) (t : Typed) → T (is_sorted pa
     → find pair_cmp k t.extents ≡ None
     → length (clusters_of (with_extent k e t)) ≡ length (clusters_of t) + 1
 count_put_new k e t sorted none =
-    length-clusters (with_extent k e t) ∙ length-put pair_cmp pair_total k e t.extents sorted
-    ∙ ap (λ (o : Option Extent). cond (is_some o) (length t.extents) (length t.extents + 1)) none
-    ∙ ap (λ (n : ℕ). n + 1) (sym (length-clusters t))
+    let long : length (put pair_cmp k e t.extents) ≡ length t.extents + 1 =
+    length-put pair_cmp pair_total k e t.extents sorted
+    ∙ ap (λ (o : Option Extent). cond (is_some o) (length t.extents) (length t.extents + 1)) none in
+    let one = length-clusters (with_extent k e t) in
+    let two = length-clusters t in
+    omega (arith, long, one, two)
 
 pub count_put_over : (k : FileBlock) (e o : Extent) (t : Typed) → T (is_sorted pair_cmp t.extents)
     → find pair_cmp k t.extents ≡ Some o
     → length (clusters_of (with_extent k e t)) ≡ length (clusters_of t)
 count_put_over k e o t sorted found =
-    length-clusters (with_extent k e t) ∙ length-put pair_cmp pair_total k e t.extents sorted
-    ∙ ap (λ (o : Option Extent). cond (is_some o) (length t.extents) (length t.extents + 1)) found
-    ∙ sym (length-clusters t)
+    let long : length (put pair_cmp k e t.extents) ≡ length t.extents =
+    length-put pair_cmp pair_total k e t.extents sorted
+    ∙ ap (λ (o : Option Extent). cond (is_some o) (length t.extents) (length t.extents + 1)) found in
+    let one = length-clusters (with_extent k e t) in
+    let two = length-clusters t in
+    omega (arith, long, one, two)
 
 pub count_dropped : (k : FileBlock) (o : Extent) (t : Typed) → T (is_sorted pair_cmp t.extents)
     → find pair_cmp k t.extents ≡ Some o

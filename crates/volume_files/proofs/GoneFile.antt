@@ -1,6 +1,6 @@
 -- A file that is deleted.
-use Rattle.std.specs.Prelude.{◌≡◌, ◌≤◌, ◌<◌, ◌+◌, ◌*◌, ◌/◌, ◌%◌, ℕ, Bool, true, false, cond, not, ◌&&◌, ◌==◌, T, List}
-use Rattle.std.specs.Prelude.{length, map, Option, Some, None, Ok, refl}
+use Rattle.std.specs.Prelude.{◌≡◌, ◌<◌, ◌+◌, ◌*◌, ◌/◌, ◌%◌, ℕ, Bool, true, false, cond, not, ◌&&◌, ◌==◌, T, List}
+use Rattle.std.specs.Prelude.{map, Option, Some, None, Ok, refl}
 use Rattle.std.proofs.Common.{◌∙◌, ap, sym, subst, arith, eq-eqb, ne_eqb, le-leb}
 use Rattle.std.specs.declared.cmp.Ordering.{Ordering}
 use Rattle.std.specs.declared.cmp.Ordering.TheVariants.{Less, Equal, Greater}
@@ -12,7 +12,6 @@ use Rattle.std.specs.FinMap.Entries.{where_key, find-where_key}
 use Rattle.std.proofs.lemmas.Map.Lookups.{exact_pairs, exact_unsigned}
 use Rattle.vdisk.specs.declared.disk.Disk.{Ghosts}
 use Rattle.byte_map.specs.Words.{bytes_cmp}
-use Rattle.cluster_space.specs.States.{free_in, deferred_in}
 use Rattle.plain_volume.specs.Step.{Outcome, plain, after, left_by, delete}
 use Rattle.plain_volume.specs.Volume.{without_file}
 use Rattle.plain_volume.specs.declared.call.Call.TheVariants.{Delete}
@@ -26,7 +25,6 @@ use Rattle.volume_inside.specs.Changes.{DropsOnly}
 use Rattle.volume_inside.specs.Entries.{each_weaker}
 use Rattle.volume_inside.specs.Inside.{Inside, inside_at}
 use Rattle.volume_inside.specs.Layout.{data_clusters}
-use Rattle.volume_inside.specs.Named.{clusters_of}
 use Rattle.volume_inside.specs.Rules.{RulesHold}
 use Rattle.volume_inside.specs.Typed.{Typed, FileBlock}
 use Rattle.volume_inside.specs.View.{cell_in, cells_or_none, file_cells, view}
@@ -34,8 +32,7 @@ use Rattle.volume_inside.proofs.Blocks.{blocks-where_key}
 use Rattle.volume_inside.proofs.Changed.{view_keeps}
 use Rattle.volume_inside.proofs.Names.{other_names}
 use Rattle.volume_inside.proofs.Removed.{rules_deleted}
-use Rattle.volume_tables.specs.Tables.{tables_now, inside_now, view_now, states_of, disk_of, clusters_in, stopped}
-use Rattle.volume_tables.specs.Tables.{staged_of, Leaves}
+use Rattle.volume_tables.specs.Tables.{tables_now, inside_now, view_now, disk_of, clusters_in}
 use Rattle.volume_tables.specs.declared.tables.Tables.{Tables}
 use Rattle.volume_tables.specs.Sound.{IsSound}
 use Rattle.volume_tables.specs.Stages.{Stages}

@@ -19,7 +19,7 @@ use Rattle.volume_inside.specs.Typed.{Typed}
 use Rattle.groundwork.proofs.Bools.{first_true, second_true}
 use Rattle.volume_tables.specs.Dropped.{end_bytes}
 use Rattle.volume_files.specs.Names.{is_other, AreShort}
-use Rattle.volume_files.specs.Needs.{name_bytes, drop_bytes}
+use Rattle.volume_files.specs.Needs.{next_name_bytes, drop_bytes}
 use Rattle.volume_files.proofs.Found.{lawful_short}
 
 abbrev Names : Type 0
@@ -66,13 +66,13 @@ pub drop_is_short : (name : List ℕ) (names : Names) → AreShort names → dro
 drop_is_short name names short = by (next_in bytes_cmp name names) refl
   where
     by : (o : Option (List ℕ × ℕ)) → next_in bytes_cmp name names ≡ o
-        → 7 + (length name + name_bytes o) ≤ 262 + length name
+        → 7 + (length name + next_name_bytes o) ≤ 262 + length name
     by None is = omega arith
     by (Some e) is = let few = next_is_short name e.0 e.1 names short is in omega (arith, few)
 
 -- the end of a range that is the next name
 pub end_is_next : {V : Type 0} (to : Option (List ℕ)) (next : Option (List ℕ × V)) → to ≡ option_map (λ p. p.0) next
-    → end_bytes (λ other. 1 + length other) to ≡ 1 + name_bytes next
+    → end_bytes (λ other. 1 + length other) to ≡ 1 + next_name_bytes next
 end_is_next to None is = ap (λ (o : Option (List ℕ)). end_bytes (λ other. 1 + length other) o) is
 end_is_next to (Some e) is = ap (λ (o : Option (List ℕ)). end_bytes (λ other. 1 + length other) o) is
 

@@ -1,5 +1,5 @@
 -- A file that gets another name.
-use Rattle.std.specs.Prelude.{◌≡◌, ℕ, Bool, true, false, cond, ◌&&◌, T, List, [], ◌∷◌, Option, Some, None, IsSome}
+use Rattle.std.specs.Prelude.{◌≡◌, ℕ, Bool, true, false, cond, T, List, [], ◌∷◌, Option, Some, None, IsSome}
 use Rattle.std.specs.Prelude.{Result, Ok, OnOk, OnErr, refl}
 use Rattle.std.proofs.Common.{inl, inr, ◌∙◌, ap, sym, subst}
 use Rattle.std.proofs.lemmas.Result.{on_ok_weaker, on_err_weaker}

@@ -1,6 +1,6 @@
 -- What a call does to what waits for a commit: room was made for it, and then it staged records and took clusters.
 use Rattle.std.specs.Prelude.{◌≡◌, ◌⊎◌, ◌+◌, ◌-◌, ◌<◌, ℕ, List, [], ◌∷◌, length, Some, Result, Ok, Err, OnOk, OnErr, IsErr, IsErrOf}
-use Rattle.std.proofs.Common.{◌∙◌, ap, sym, ⊎_elim, arith}
+use Rattle.std.proofs.Common.{◌∙◌, ap, ⊎_elim, arith}
 use Rattle.vdisk.specs.declared.disk.Disk.{Ghosts}
 use Rattle.cluster_space.specs.States.{free_in}
 use Rattle.plain_volume.specs.declared.call.Fault.{Fault}

@@ -11,14 +11,13 @@ use Rattle.table_records.specs.Keys.{single_cmp, pair_cmp}
 use Rattle.table_records.specs.declared.records.Extent.{Extent}
 use Rattle.table_records.specs.declared.records.FileRecord.{FileRecord}
 use Rattle.table_records.specs.declared.records.VolumeRecord.{VolumeRecord}
-use Rattle.table_records.specs.declared.settings.Settings.{Settings}
 use Rattle.volume_inside.specs.Changes.{with_extent, with_file, keep_extents}
 use Rattle.volume_inside.specs.Named.{clusters_of}
 use Rattle.volume_inside.specs.Rules.{id_after, next_id_of}
 use Rattle.volume_inside.specs.Typed.{Typed, FileBlock}
 use Rattle.volume_tables.specs.Tables.{tables_now}
 use Rattle.volume_tables.specs.declared.tables.Tables.{Tables}
-use Rattle.volume_tables.specs.Spending.{Spends}
+use Rattle.volume_tables.specs.Spending.{Spends, Aside, aside}
 use Rattle.volume_files.specs.Lengths.{cut_extent, with_extent_if, end_cut, lies_behind, cut_if, resized_in}
 use Rattle.volume_files.specs.Names.{with_new, with_renamed, without_name}
 use Rattle.volume_files.specs.Needs.{touched, touched_at}
@@ -94,8 +93,11 @@ next_new name t = next_put (record { version = 1; next_id = next_id_of t + 1 }) 
 
 -- ---- what stands beside the names, the files and the extents
 
-abbrev beside : Typed → List (Unit {0} × VolumeRecord) × List (Unit {0} × Settings)
-beside t = (t.volume, t.settings)
+abbrev Beside : Type 0
+Beside = List (Unit {0} × VolumeRecord) × Aside
+
+abbrev beside : Typed → Beside
+beside t = (t.volume, aside t)
 
 beside_if : (k : FileBlock) (o : Option Extent) (t : Typed) → beside (with_extent_if k o t) ≡ beside t
 beside_if k None t = refl
@@ -114,16 +116,16 @@ module _ {D : Type 0} {d : Ghosts D} where
   spends_none n i a b same = record {
     named = let is = ap (λ (t : Typed). named_in t) same in omega (arith, is);
     drawn = let is = ap (λ (t : Typed). next_id_of t) same in omega (arith, is);
-    settings = ap (λ (t : Typed). t.settings) same;
+    same = ap aside same;
   }
 
   -- tables that name no more clusters
   spends_some : (i : ℕ) (a b : Tables D d) (q : Typed) → tables_now b ≡ q → named_in q ≤ named_in (tables_now a)
-      → next_id_of q ≤ next_id_of (tables_now a) + i → q.settings ≡ (tables_now a).settings → Spends 0 i a b
-  spends_some i a b q is named drawn settings = record {
+      → next_id_of q ≤ next_id_of (tables_now a) + i → aside q ≡ aside (tables_now a) → Spends 0 i a b
+  spends_some i a b q is named drawn kept = record {
     named = let same = ap (λ (t : Typed). named_in t) is in omega (arith, same, named);
     drawn = let same = ap (λ (t : Typed). next_id_of t) is in omega (arith, same, drawn);
-    settings = ap (λ (t : Typed). t.settings) is ∙ settings;
+    same = ap aside is ∙ kept;
   }
 
   -- two calls, one behind the other
@@ -132,7 +134,7 @@ module _ {D : Type 0} {d : Ghosts D} where
   spends_then m n most a b c first second fits = record {
     named = omega (arith, first.named, second.named, fits);
     drawn = omega (arith, first.drawn, second.drawn);
-    settings = second.settings ∙ first.settings;
+    same = second.same ∙ first.same;
   }
 
   -- once room was made
@@ -143,7 +145,7 @@ module _ {D : Type 0} {d : Ghosts D} where
           let is = ap (λ (q : Typed). named_in q) now in
           omega (arith, is, spends.named);
       drawn = let is = ap (λ (q : Typed). next_id_of q) now in omega (arith, is, spends.drawn);
-      settings = spends.settings ∙ ap (λ (q : Typed). q.settings) now;
+      same = spends.same ∙ ap aside now;
     }
 
     -- a file was made, or not
@@ -176,11 +178,10 @@ module _ {D : Type 0} {d : Ghosts D} where
     spends_resized id len file resized =
         let same : beside (resized_in id file len (tables_now m)) ≡ beside (tables_now m) =
         beside_cut (nat_lt len file.length) id len (tables_now m) in
-        let next = ap (λ (p : List (Unit {0} × VolumeRecord) × List (Unit {0} × Settings)).
-        id_after (find single_cmp tt p.0)) same in
+        let next = ap (λ (p : Beside). id_after (find single_cmp tt p.0)) same in
         after_room 0 0 (spends_some 0 m s (resized_in id file len (tables_now m)) resized
         (named_resized id len file (tables_now m) (sorted_now m)) (omega (arith, next))
-        (ap (λ (p : List (Unit {0} × VolumeRecord) × List (Unit {0} × Settings)). p.1) same))
+        (ap (λ (p : Beside). p.1) same))
 
     -- bytes were written, or not
     pub spends_written : (at : ℕ) (bytes : List ℕ) → 0 < length bytes → Spends (touched at (length bytes)) 0 m s
@@ -197,7 +198,7 @@ module _ {D : Type 0} {d : Ghosts D} where
         let put = named_put k e (tables_now a) (sorted_now a) in
         omega (arith, same, put);
     drawn = let same = ap (λ (t : Typed). next_id_of t) set in omega (arith, same);
-    settings = ap (λ (t : Typed). t.settings) set;
+    same = ap aside set;
   }
 
   -- the record of a file was set

@@ -57,13 +57,13 @@ write_needs t file at count = record {
 }
 
 -- whether so many bytes of a block are fewer than its extent has
-abbrev pub is_cut : ℕ → Option Extent → Bool
-is_cut rest None = false
-is_cut rest (Some e) = nat_lt 0 rest && nat_lt rest e.valid
+abbrev pub names_more : ℕ → Option Extent → Bool
+names_more rest None = false
+names_more rest (Some e) = nat_lt 0 rest && nat_lt rest e.valid
 
 -- 24 where a file of this length is cut inside the bytes of an extent, which is then set anew
 abbrev pub set_at_end : Typed → ℕ → ℕ → ℕ
-set_at_end t file len = cond (is_cut (len % 4096) (find pair_cmp (file, len / 4096) t.extents)) 24 0
+set_at_end t file len = cond (names_more (len % 4096) (find pair_cmp (file, len / 4096) t.extents)) 24 0
 
 -- another length: the record of the file, and, where it is shorter, the extents behind its end are dropped, and the one
 -- at its end is set anew
@@ -78,13 +78,13 @@ length_needs t file old len = record {
 -- ---- how many bytes of records each call stages that is answered Ok
 
 -- the bytes of a name, if there is one
-abbrev pub name_bytes : {V : Type 0} → Option (List ℕ × V) → ℕ
-name_bytes None = 0
-name_bytes (Some e) = length e.0
+abbrev pub next_name_bytes : {V : Type 0} → Option (List ℕ × V) → ℕ
+next_name_bytes None = 0
+next_name_bytes (Some e) = length e.0
 
 -- a name of these is dropped: its record has the name and the one above it
 abbrev pub drop_bytes : List (List ℕ × ℕ) → List ℕ → ℕ
-drop_bytes names name = 7 + (length name + name_bytes (next_in bytes_cmp name names))
+drop_bytes names name = 7 + (length name + next_name_bytes (next_in bytes_cmp name names))
 
 -- the records of a file, of its name and of the volume, whose next id has risen
 abbrev pub create_bytes : List ℕ → ℕ

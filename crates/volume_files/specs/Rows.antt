@@ -10,22 +10,24 @@ abbrev pub file_of : ℕ → FileRecord
 file_of length = record { length = length; map_row = 0; covers = 0 }
 
 -- a volume with these files and blocks that draws this id next
-abbrev pub volume_of : ℕ → List (List ℕ × ℕ) → List (ℕ × FileRecord) → Blocks → Inside
-volume_of next_id names files blocks = record {
+abbrev pub small_volume : ℕ → List (List ℕ × ℕ) → List (ℕ × FileRecord) → Blocks → Inside
+small_volume next_id names files blocks = record {
   volume = (tt, record { version = 1; next_id = next_id }) ∷ [];
   names = names;
   files = files;
   blocks = blocks;
-  bases = tt;
+  bases = record { rows = []; copies = [] };
+  containers = [];
+  pages = [];
   settings = (tt, fresh_settings) ∷ [];
   results = [];
 }
 
 -- one file, `a`, of so many bytes
-abbrev pub one_file : ℕ → Blocks → Inside
-one_file length blocks = volume_of 2 ((codes "a", 1) ∷ []) ((1, file_of length) ∷ []) blocks
+abbrev pub only_a : ℕ → Blocks → Inside
+only_a length blocks = small_volume 2 ((codes "a", 1) ∷ []) ((1, file_of length) ∷ []) blocks
 
 -- the files `a` and `c`
 abbrev pub two_files : Inside
-two_files = volume_of 3 ((codes "a", 1) ∷ (codes "c", 2) ∷ []) ((1, file_of 5) ∷ (2, file_of 2) ∷ [])
+two_files = small_volume 3 ((codes "a", 1) ∷ (codes "c", 2) ∷ []) ((1, file_of 5) ∷ (2, file_of 2) ∷ [])
     (((1, 0), codes "hello") ∷ ((2, 0), codes "hi") ∷ [])

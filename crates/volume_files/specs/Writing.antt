@@ -57,8 +57,8 @@ AreAhead start at bytes run image =
     (k : ℕ) → k < run.count → cluster_bytes (run.first + k) image ≡ part (start + 4096 * k - at) 4096 bytes
 
 -- a run without its first cluster
-abbrev pub rest_of : Run → Run
-rest_of run = record { first = run.first + 1; count = run.count - 1 }
+abbrev pub without_first : Run → Run
+without_first run = record { first = run.first + 1; count = run.count - 1 }
 
 -- a cluster has the block as it is once the bytes were written: an extent named what stood there in an older image
 abbrev pub HasLaid : ℕ → ℕ → List ℕ → Option Extent → List ℕ → List ℕ → ℕ → Type 0

@@ -18,16 +18,20 @@ ghost use Rattle.volume_tables.specs.Frames.{AreFree, NamesNoFree};
 ghost use Rattle.volume_tables.specs.Tables.{tables_now, inside_now, states_of, staged_of, checkpoint_of, disk_of};
 ghost use Rattle.volume_tables.specs.Tables.{clusters_in, stopped, new_bytes, IsTables, Leaves};
 ghost use Rattle.volume_files.specs.Insides.{block_written};
-ghost use Rattle.volume_files.specs.Writing.{laid, named_bytes, rest_of, AreAhead, AreFilled, HasLaid, IsReadable};
+ghost use Rattle.volume_files.specs.Writing.{laid, named_bytes, without_first, AreAhead, AreFilled, HasLaid, IsReadable};
 ghost use Rattle.volume_files.specs.Writing.{IsReadFirst, IsNoFreer, LosesNone};
 
 use cluster_space::Run;
 use plain_volume::Fault;
 use vdisk::Disk;
+use volume_inside::CLUSTER_BYTES;
 use volume_tables::{Extent, FileRecord, Tables};
 
 /// How many bytes a block has.
-pub(crate) const BLOCK: u64 = 4096;
+pub(crate) const BLOCK: u64 = CLUSTER_BYTES as u64;
+
+/// The same as the length of an array.
+const BLOCK_BYTES: usize = BLOCK as usize;
 
 /// Puts bytes in the place of others.
 fn put_part(block: &mut [u8], from: usize, part: &[u8])
@@ -38,7 +42,7 @@ fn put_part(block: &mut [u8], from: usize, part: &[u8])
 }
 
 /// Lays bytes that belong at the place `at` of a file over its block that begins at `start`. Some of them lie in it.
-fn lay_over(block: &mut [u8; 4096], start: u64, at: u64, bytes: &[u8])
+fn lay_over(block: &mut [u8; BLOCK_BYTES], start: u64, at: u64, bytes: &[u8])
     requires short { length bytes.now ≤ 1048576 }
     requires low { at ≤ 1073741824 }
     requires block_low { start ≤ 1073741824 }
@@ -49,12 +53,12 @@ fn lay_over(block: &mut [u8; 4096], start: u64, at: u64, bytes: &[u8])
 {
     let from = at.saturating_sub(start) as usize;
     let skipped = start.saturating_sub(at) as usize;
-    let count = (bytes.len() - skipped).min(4096 - from);
+    let count = (bytes.len() - skipped).min(BLOCK_BYTES - from);
     put_part(block, from, &bytes[skipped..skipped + count]);
 }
 
 /// Reads the bytes that an extent names into the front of a block.
-fn read_front<D: Disk>(
+fn read_extent<D: Disk>(
     tables: &mut Tables<D>,
     extent: Extent,
     block: &mut [u8],
@@ -80,7 +84,7 @@ fn read_front<D: Disk>(
 fn read_block<D: Disk>(
     tables: &mut Tables<D>,
     was: Option<Extent>,
-    block: &mut [u8; 4096],
+    block: &mut [u8; BLOCK_BYTES],
 ) -> Result<(), Fault>
     requires readable { IfSome was (IsReadable tables.old.clusters) }
     requires zeros { (o : ℕ) → slice_index block.old o ≡ 0 }
@@ -99,7 +103,7 @@ fn read_block<D: Disk>(
 {
     match was {
         None => Ok(()),
-        Some(extent) => read_front(tables, extent, block),
+        Some(extent) => read_extent(tables, extent, block),
     }
 }
 
@@ -121,7 +125,7 @@ fn block_with<D: Disk>(
     start: u64,
     at: u64,
     bytes: &[u8],
-) -> Result<[u8; 4096], Fault>
+) -> Result<[u8; BLOCK_BYTES], Fault>
     requires readable { IfSome was (IsReadable tables.old.clusters) }
     requires short { length bytes.now ≤ 1048576 }
     requires low { at ≤ 1073741824 }
@@ -147,7 +151,7 @@ fn block_with<D: Disk>(
     } else {
         was
     };
-    let mut block = [0; 4096];
+    let mut block = [0; BLOCK_BYTES];
     read_block(tables, beside, &mut block)?;
     lay_over(&mut block, start, at, bytes);
     Ok(block)
@@ -254,7 +258,7 @@ fn write_ahead<D: Disk>(
         (disk_of tables.old).image (disk_of tables.new).image run.first) }
     ensures ahead { (stored : Typed) → IsTables tables.old stored →
         AreAhead start at bytes.now ahead (disk_of tables.old).image → IfOk result (λ run.
-        AreAhead (start + 4096) at bytes.now (rest_of run) (disk_of tables.new).image) }
+        AreAhead (start + 4096) at bytes.now (without_first run) (disk_of tables.new).image) }
     ensures now { tables_now tables.new ≡ tables_now tables.old }
     ensures states { states_of tables.new ≡ states_of tables.old }
     ensures same { inside_now tables.new ≡ inside_now tables.old }

@@ -32,7 +32,12 @@ use volume_tables::{Extent, FileRecord, Tables};
 
 /// Gives a key, which has the extent `named`, the one that it had before, or none. The cluster of the one before is
 /// deferred.
-fn take_back<D: Disk>(tables: &mut Tables<D>, key: (u64, u32), named: Extent, was: Option<Extent>)
+fn restore_extent<D: Disk>(
+    tables: &mut Tables<D>,
+    key: (u64, u32),
+    named: Extent,
+    was: Option<Extent>,
+)
     requires room { staged_of tables.old + 31 ≤ 65472 }
     requires low { key.1 < 1048576 }
     requires there { find pair_cmp key (tables_now tables.old).extents ≡ Some named }
@@ -122,7 +127,7 @@ pub(crate) fn write_blocks<D: Disk>(
     match write_blocks(tables, file, grown, at, bytes, index + 1, written.ahead) {
         Ok(()) => Ok(()),
         Err(fault) => {
-            take_back(tables, key, written.extent, was);
+            restore_extent(tables, key, written.extent, was);
             Err(fault)
         }
     }

@@ -20,11 +20,16 @@ ghost use Rattle.volume_files.specs.Needs.{delete_needs, drop_bytes, delete_byte
 
 use crate::lookup::find_file;
 use plain_volume::Fault;
+use plain_volume::limits::MOST_BYTES_OF_A_NAME;
 use vdisk::Disk;
 use volume_tables::{Tables, make_room};
 
 /// Copies the least name above another one, and tells its length, if there is one.
-fn copy_next<D: Disk>(tables: &Tables<D>, name: &[u8], out: &mut [u8; 255]) -> Option<usize>
+fn copy_next<D: Disk>(
+    tables: &Tables<D>,
+    name: &[u8],
+    out: &mut [u8; MOST_BYTES_OF_A_NAME],
+) -> Option<usize>
     requires short { length name.now ≤ 255 }
     requires names { AreShort (tables_now tables.now).names }
     ensures within { IfSome result (λ n. n ≤ 255) }
@@ -48,7 +53,7 @@ pub(crate) fn drop_one_name<D: Disk>(tables: &mut Tables<D>, name: &[u8])
     ensures tables { tables_now tables.new ≡ keep_names (is_other name.now) (tables_now tables.old) }
     ensures stages { Stages (drop_bytes (tables_now tables.old).names name.now) tables.old tables.new }
 {
-    let mut next = [0u8; 255];
+    let mut next = [0; MOST_BYTES_OF_A_NAME];
     match copy_next(tables, name, &mut next) {
         None => tables.drop_name(name, None),
         Some(length) => tables.drop_name(name, Some(&next[..length])),

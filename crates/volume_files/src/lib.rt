@@ -12,7 +12,7 @@ mod lookup;
 mod reading;
 mod renaming;
 mod resizing;
-mod rows;
+pub mod rows;
 mod stretches;
 mod writing;
 
@@ -22,9 +22,4 @@ pub use lookup::find_file;
 pub use reading::read_plain;
 pub use renaming::rename;
 pub use resizing::set_length;
-pub use rows::{
-    a_deleted_file_goes_with_its_blocks, a_file_is_cut_to_its_end, a_longer_file_gets_no_block,
-    a_new_file_draws_one_id, a_renamed_file_keeps_its_id, bytes_are_written_in_their_block,
-    nothing_is_written, two_bytes_touch_one_block_or_two, zeros_stand_before_the_bytes,
-};
 pub use writing::write_plain;

@@ -47,7 +47,12 @@ fn check_names<D: Disk>(tables: &Tables<D>, from: &[u8], to: &[u8]) -> Result<u6
 }
 
 /// Puts the new name of a file, and drops the old one. The fault is `Memory`, and then the tables are as they were.
-fn put_name<D: Disk>(tables: &mut Tables<D>, from: &[u8], to: &[u8], id: u64) -> Result<(), Fault>
+fn replace_name<D: Disk>(
+    tables: &mut Tables<D>,
+    from: &[u8],
+    to: &[u8],
+    id: u64,
+) -> Result<(), Fault>
     requires short { length from.now ≤ 255 }
     requires short_to { length to.now ≤ 255 }
     requires names { AreShort (tables_now tables.old).names }
@@ -98,5 +103,5 @@ pub fn rename<D: Disk>(tables: &mut Tables<D>, from: &[u8], to: &[u8]) -> Result
         276 + (from.len() + to.len()),
         0,
     )?;
-    put_name(tables, from, to, id)
+    replace_name(tables, from, to, id)
 }

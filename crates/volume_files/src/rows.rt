@@ -3,13 +3,13 @@ ghost use Rattle.std.specs.Prelude.{◌≡◌, ◌++◌, [], ◌∷◌, codes, r
 ghost use Rattle.volume_files.specs.Insides.{inside_created, inside_renamed, inside_deleted};
 ghost use Rattle.volume_files.specs.Insides.{inside_resized, inside_written};
 ghost use Rattle.volume_files.specs.Needs.{touched};
-ghost use Rattle.volume_files.specs.Rows.{file_of, volume_of, one_file, two_files};
+ghost use Rattle.volume_files.specs.Rows.{file_of, small_volume, only_a, two_files};
 
 /// A new file has the next id, and its name stands in the order of the names.
 pub fn a_new_file_draws_one_id()
-    ensures first { inside_created (codes "a") (volume_of 1 [] [] []) ≡ one_file 0 [] }
+    ensures first { inside_created (codes "a") (small_volume 1 [] [] []) ≡ only_a 0 [] }
     ensures between { inside_created (codes "b") two_files ≡
-        volume_of 4 ((codes "a", 1) ∷ (codes "b", 3) ∷ (codes "c", 2) ∷ [])
+        small_volume 4 ((codes "a", 1) ∷ (codes "b", 3) ∷ (codes "c", 2) ∷ [])
         ((1, file_of 5) ∷ (2, file_of 2) ∷ (3, file_of 0) ∷ [])
         (((1, 0), codes "hello") ∷ ((2, 0), codes "hi") ∷ []) }
 {}
@@ -17,7 +17,7 @@ pub fn a_new_file_draws_one_id()
 /// A file keeps its id, its record and its blocks under another name.
 pub fn a_renamed_file_keeps_its_id()
     ensures behind { inside_renamed (codes "a") (codes "d") two_files ≡
-        volume_of 3 ((codes "c", 2) ∷ (codes "d", 1) ∷ []) ((1, file_of 5) ∷ (2, file_of 2) ∷ [])
+        small_volume 3 ((codes "c", 2) ∷ (codes "d", 1) ∷ []) ((1, file_of 5) ∷ (2, file_of 2) ∷ [])
         (((1, 0), codes "hello") ∷ ((2, 0), codes "hi") ∷ []) }
     ensures no_file { inside_renamed (codes "b") (codes "d") two_files ≡ two_files }
 {}
@@ -25,50 +25,50 @@ pub fn a_renamed_file_keeps_its_id()
 /// A file goes with its blocks, and its id is not drawn again.
 pub fn a_deleted_file_goes_with_its_blocks()
     ensures first { inside_deleted (codes "a") two_files ≡
-        volume_of 3 ((codes "c", 2) ∷ []) ((2, file_of 2) ∷ []) (((2, 0), codes "hi") ∷ []) }
+        small_volume 3 ((codes "c", 2) ∷ []) ((2, file_of 2) ∷ []) (((2, 0), codes "hi") ∷ []) }
     ensures no_file { inside_deleted (codes "b") two_files ≡ two_files }
 {}
 
 /// The block in which a file ends keeps its front, and the blocks behind go.
 pub fn a_file_is_cut_to_its_end()
     ensures inside_a_block { inside_resized (codes "a") 3
-        (one_file 4098 (((1, 0), codes "hello") ∷ ((1, 1), codes "hi") ∷ [])) ≡
-        one_file 3 (((1, 0), codes "hel") ∷ []) }
+        (only_a 4098 (((1, 0), codes "hello") ∷ ((1, 1), codes "hi") ∷ [])) ≡
+        only_a 3 (((1, 0), codes "hel") ∷ []) }
     ensures behind_its_bytes { inside_resized (codes "a") 7
-        (one_file 4098 (((1, 0), codes "hello") ∷ ((1, 1), codes "hi") ∷ [])) ≡
-        one_file 7 (((1, 0), codes "hello") ∷ []) }
+        (only_a 4098 (((1, 0), codes "hello") ∷ ((1, 1), codes "hi") ∷ [])) ≡
+        only_a 7 (((1, 0), codes "hello") ∷ []) }
     ensures between_blocks { inside_resized (codes "a") 4096
-        (one_file 4098 (((1, 0), codes "hello") ∷ ((1, 1), codes "hi") ∷ [])) ≡
-        one_file 4096 (((1, 0), codes "hello") ∷ []) }
+        (only_a 4098 (((1, 0), codes "hello") ∷ ((1, 1), codes "hi") ∷ [])) ≡
+        only_a 4096 (((1, 0), codes "hello") ∷ []) }
     ensures to_nothing { inside_resized (codes "a") 0 two_files ≡
-        volume_of 3 ((codes "a", 1) ∷ (codes "c", 2) ∷ []) ((1, file_of 0) ∷ (2, file_of 2) ∷ [])
+        small_volume 3 ((codes "a", 1) ∷ (codes "c", 2) ∷ []) ((1, file_of 0) ∷ (2, file_of 2) ∷ [])
         (((2, 0), codes "hi") ∷ []) }
 {}
 
 /// A file that gets longer keeps its blocks.
 pub fn a_longer_file_gets_no_block()
-    ensures { inside_resized (codes "a") 8192 (one_file 5 (((1, 0), codes "hello") ∷ [])) ≡
-        one_file 8192 (((1, 0), codes "hello") ∷ []) }
+    ensures { inside_resized (codes "a") 8192 (only_a 5 (((1, 0), codes "hello") ∷ [])) ≡
+        only_a 8192 (((1, 0), codes "hello") ∷ []) }
 {}
 
 /// Bytes take the place of others, and the rest of their block stays.
 pub fn bytes_are_written_in_their_block()
-    ensures middle { inside_written (codes "a") 1 (codes "EL") (one_file 5 (((1, 0), codes "hello") ∷ [])) ≡
-        one_file 5 (((1, 0), codes "hELlo") ∷ []) }
-    ensures over_the_end { inside_written (codes "a") 4 (codes "O!") (one_file 5 (((1, 0), codes "hello") ∷ [])) ≡
-        one_file 6 (((1, 0), codes "hellO!") ∷ []) }
-    ensures behind_the_end { inside_written (codes "a") 6 (codes "!") (one_file 5 (((1, 0), codes "hello") ∷ [])) ≡
-        one_file 7 (((1, 0), codes "hello" ++ (0 ∷ codes "!")) ∷ []) }
-    ensures another_block { inside_written (codes "a") 4096 (codes "!") (one_file 5 (((1, 0), codes "hello") ∷ [])) ≡
-        one_file 4097 (((1, 0), codes "hello") ∷ ((1, 1), codes "!") ∷ []) }
+    ensures middle { inside_written (codes "a") 1 (codes "EL") (only_a 5 (((1, 0), codes "hello") ∷ [])) ≡
+        only_a 5 (((1, 0), codes "hELlo") ∷ []) }
+    ensures over_the_end { inside_written (codes "a") 4 (codes "O!") (only_a 5 (((1, 0), codes "hello") ∷ [])) ≡
+        only_a 6 (((1, 0), codes "hellO!") ∷ []) }
+    ensures behind_the_end { inside_written (codes "a") 6 (codes "!") (only_a 5 (((1, 0), codes "hello") ∷ [])) ≡
+        only_a 7 (((1, 0), codes "hello" ++ (0 ∷ codes "!")) ∷ []) }
+    ensures another_block { inside_written (codes "a") 4096 (codes "!") (only_a 5 (((1, 0), codes "hello") ∷ [])) ≡
+        only_a 4097 (((1, 0), codes "hello") ∷ ((1, 1), codes "!") ∷ []) }
 {}
 
 /// Bytes over the end of a block are written in both, and a block that is new has zeros before them.
 pub fn zeros_stand_before_the_bytes()
-    ensures two_blocks { inside_written (codes "a") 4095 (codes "xy") (one_file 0 []) ≡
-        one_file 4097 (((1, 0), replicate 4095 0 ++ codes "x") ∷ ((1, 1), codes "y") ∷ []) }
-    ensures one_block { inside_written (codes "a") 4098 (codes "x") (one_file 0 []) ≡
-        one_file 4099 (((1, 1), 0 ∷ 0 ∷ codes "x") ∷ []) }
+    ensures two_blocks { inside_written (codes "a") 4095 (codes "xy") (only_a 0 []) ≡
+        only_a 4097 (((1, 0), replicate 4095 0 ++ codes "x") ∷ ((1, 1), codes "y") ∷ []) }
+    ensures one_block { inside_written (codes "a") 4098 (codes "x") (only_a 0 []) ≡
+        only_a 4099 (((1, 1), 0 ∷ 0 ∷ codes "x") ∷ []) }
 {}
 
 /// No bytes, and a file that is not there, change nothing.

@@ -21,6 +21,9 @@ use Rattle.table_records.specs.declared.records.Extent.{Extent}
 use Rattle.volume_inside.specs.Typed.{Typed, FileBlock}
 use Rattle.volume_inside.specs.Changes.{created}
 use Rattle.volume_inside.specs.Entries.{Each, each_put, each_found, each_weaker}
+use Rattle.table_records.specs.declared.chunk_records.Container.{Container}
+use Rattle.volume_inside.specs.ChunkTables.{ChunkTables}
+use Rattle.volume_inside.specs.ChunkRules.{RowHolds, ContainerRecordHolds, ContainerHolds, ChunksHold}
 use Rattle.volume_inside.specs.Rules.{IsVolumeRecord, id_after, NameHolds, IsNamedOnce, FileHolds, FilesHold, LiesIn, ExtentHolds, ExtentsHold, RulesHold}
 use Rattle.volume_inside.proofs.Lawfuls.{there_after, lies_after}
 
@@ -90,6 +93,39 @@ not_same a b less = by (b == a) (λ same. omega (arith, less, eqb-true b a same)
     by true never = absurd (never refl)
     by false never = refl
 
+-- once more ids are drawn, the tables of chunks meet their rules
+chunks_drawn : (n low high : ℕ) (t : ChunkTables) → low ≤ high → ChunksHold n low t → ChunksHold n high t
+chunks_drawn n low high t le h = record {
+  rows = each_weaker (RowHolds low) (RowHolds high) t.rows
+      (λ id row r. record {
+        some_id = r.some_id;
+        drawn = omega (arith, r.drawn, le);
+        some_seen = r.some_seen;
+        some_kind = r.some_kind;
+        kind = r.kind;
+        if_data = r.if_data;
+        if_map = r.if_map;
+      }) h.rows;
+  redirects = h.redirects;
+  places = h.places;
+  containers = record {
+    containers = each_weaker (ContainerHolds low t.clusters) (ContainerHolds high t.clusters) t.containers
+        (λ id c r. record { own = drawn_container id c r.own; whole = r.whole }) h.containers.containers;
+    clusters = h.containers.clusters;
+    in_data = h.containers.in_data;
+  };
+}
+  where
+    drawn_container : (id : ℕ) (c : Container) → ContainerRecordHolds low id c → ContainerRecordHolds high id c
+    drawn_container id c r = record {
+      some_id = r.some_id;
+      drawn = omega (arith, r.drawn, le);
+      some_kind = r.some_kind;
+      kind = r.kind;
+      some_bytes = r.some_bytes;
+      few = r.few;
+    }
+
 module _ (n : ℕ) (t : Typed) (rules : RulesHold n t) (v : VolumeRecord) (there : find single_cmp tt t.volume ≡ Some v)
     (name : List ℕ) (file : FileRecord) where
   files_before : FilesHold v.next_id t.files
@@ -145,6 +181,11 @@ module _ (n : ℕ) (t : Typed) (rules : RulesHold n t) (v : VolumeRecord) (there
         (λ x f h. record { some_id = h.some_id; drawn = omega (arith, h.drawn); short = h.short; no_map = h.no_map; no_cover = h.no_cover })
         files_before)
 
+    chunks_after : ChunksHold n (v.next_id + 1) t.chunks
+    chunks_after =
+        chunks_drawn n v.next_id (v.next_id + 1) t.chunks (omega arith)
+        (subst (λ (next : ℕ). ChunksHold n next t.chunks) (ap id_after there) rules.chunks)
+
     -- THE NEW FILE: the tables with it meet the rules
     pub rules_created : RulesHold n (created v name file t)
     rules_created = record {
@@ -168,5 +209,6 @@ module _ (n : ℕ) (t : Typed) (rules : RulesHold n t) (v : VolumeRecord) (there
       };
       files = subst (λ (next : ℕ). FilesHold next (created v name file t).files) (sym (ap id_after volume_after)) files_after;
       extents = extents_hold;
+      chunks = subst (λ (next : ℕ). ChunksHold n next t.chunks) (sym (ap id_after volume_after)) chunks_after;
       clusters = rules.clusters;
     }

@@ -45,6 +45,12 @@ fresh_rules n = record {
   names = record { names = tt; once = tt; few = omega arith };
   files = tt;
   extents = tt;
+  chunks = record {
+    rows = tt;
+    redirects = tt;
+    places = record { places = tt; first_copies = tt };
+    containers = record { containers = tt; clusters = tt; in_data = tt };
+  };
   clusters = tt;
 }
 

@@ -41,7 +41,9 @@ broken_once j k number rule one two later (inr (holds, a)) (inr (too, b)) = late
 
 pub least_once : (n : ℕ) (m : Map) (j k : ℕ) → IsLeastBroken n m j → IsLeastBroken n m k → j ≡ k
 least_once n m j k =
-    broken_once j k 1 _ _ _ (broken_once j k 2 _ _ _ (broken_once j k 3 _ _ _ (broken_once j k 5 _ _ _ (broken_once j k 10 _ _ _ (λ a b. absurd a)))))
+    broken_once j k 1 _ _ _ (broken_once j k 2 _ _ _ (broken_once j k 3 _ _ _ (broken_once j k 5 _ _ _
+    (broken_once j k 6 _ _ _ (broken_once j k 7 _ _ _ (broken_once j k 8 _ _ _ (broken_once j k 9 _ _ _
+    (broken_once j k 10 _ _ _ (λ a b. absurd a)))))))))
 
 -- no rule of a volume is broken
 unbroken : (k number : ℕ) (rule later : Type 0) → rule → (later → ⊥) → Broken k number rule later → ⊥
@@ -54,7 +56,11 @@ volume_unbroken n m k v =
     (unbroken k 2 _ _ v.rules.names
     (unbroken k 3 _ _ v.rules.files
     (unbroken k 5 _ _ v.rules.extents
-    (unbroken k 10 _ _ v.rules.clusters (λ none. none)))))
+    (unbroken k 6 _ _ v.rules.chunks.rows
+    (unbroken k 7 _ _ v.rules.chunks.redirects
+    (unbroken k 8 _ _ v.rules.chunks.places
+    (unbroken k 9 _ _ v.rules.chunks.containers
+    (unbroken k 10 _ _ v.rules.clusters (λ none. none)))))))))
 
 -- ---- the version
 

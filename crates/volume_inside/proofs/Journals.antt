@@ -28,7 +28,7 @@ module _ (n : ℕ) where
   rules_data t rules = extents t.extents rules.extents
     where
       extents : (es : List (FileBlock × Extent)) → ExtentsHold n t.files es → AreData n (extent_clusters es ++ base_clusters t)
-      extents [] each = tt
+      extents [] each = rules.chunks.containers.in_data
       extents (e ∷ es) each = (each.0.in_data, extents es each.1)
 
   -- so do they with an extent over one more data cluster, and with some of their extents

@@ -52,6 +52,7 @@ module _ (n : ℕ) (t : Typed) (rules : RulesHold n t) where
     names = rules.names;
     files = rules.files;
     extents = each_put pair_cmp (exact_pairs nat_cmp nat_cmp exact_unsigned exact_unsigned) (ExtentHolds n t.files) k e t.extents holds rules.extents;
+    chunks = rules.chunks;
     clusters = once;
   }
 
@@ -62,6 +63,7 @@ module _ (n : ℕ) (t : Typed) (rules : RulesHold n t) where
     names = rules.names;
     files = rules.files;
     extents = each_where_key pair_cmp (ExtentHolds n t.files) test t.extents rules.extents;
+    chunks = rules.chunks;
     clusters = once_kept (0, 0) (base_clusters t) test t.extents rules.clusters;
   }
 
@@ -80,6 +82,7 @@ module _ (n : ℕ) (t : Typed) (rules : RulesHold n t) where
         };
         files = each_put nat_cmp nat_cmp-IsAntisymmetric (FileHolds (next_id_of t)) id file t.files holds rules.files;
         extents = lie t.extents rules.extents blocks;
+        chunks = rules.chunks;
         clusters = rules.clusters;
       }
     where

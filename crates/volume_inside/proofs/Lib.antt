@@ -1,15 +1,26 @@
-mod Bytes
+pub mod BaseAppended
+pub mod BaseCovered
+pub mod BaseDamaged
+pub mod BaseGrown
+pub mod BaseSound
+pub mod BaseTails
 pub mod Blocks
+mod Bytes
 pub mod Cells
-pub mod Spaces
-pub mod Views
-pub mod Lawfuls
+pub mod Changed
 pub mod Created
 pub mod Freshness
-pub mod Changed
-pub mod Names
-pub mod Removed
 pub mod Insides
-pub mod Superblocks
+pub mod Joined
 pub mod Journals
+pub mod Lawfuls
+pub mod Lost
+pub mod Names
+pub mod Naming
 pub mod Others
+pub mod Removed
+pub mod SpaceChanges
+pub mod Spaces
+pub mod Superblocks
+pub mod TailsOn
+pub mod Views

@@ -4,7 +4,7 @@ use Rattle.std.proofs.Common.{sym, ◌∙◌, ap}
 use Rattle.byte_map.specs.Words.{Map}
 use Rattle.table_records.specs.Codecs.{Codec, typed, with_key}
 use Rattle.table_records.specs.Changes.{IsPut, IsDropped, put_there, dropped_there}
-use Rattle.table_records.specs.Tables.{volume_codec, name_codec, file_codec, extent_codec, settings_codec, result_codec}
+use Rattle.table_records.specs.Tables.{volume_codec, name_codec, file_codec, extent_codec, row_codec, place_codec, container_codec, cluster_codec, settings_codec, result_codec}
 use Rattle.table_records.proofs.Belongs.{apart}
 use Rattle.volume_inside.specs.Typed.{Typed, typed_of}
 
@@ -19,6 +19,12 @@ but_for n t = record {
   names = unless n name_codec.number t.names;
   files = unless n file_codec.number t.files;
   extents = unless n extent_codec.number t.extents;
+  chunks = record {
+    rows = unless n row_codec.number t.chunks.rows;
+    places = unless n place_codec.number t.chunks.places;
+    containers = unless n container_codec.number t.chunks.containers;
+    clusters = unless n cluster_codec.number t.chunks.clusters;
+  };
   settings = unless n settings_codec.number t.settings;
   results = unless n result_codec.number t.results;
 }
@@ -38,6 +44,12 @@ module _ (n : ℕ) (new old : Map) (same : (K V : Type 0) (c : Codec K V) → n 
     names = table_same name_codec i;
     files = table_same file_codec i;
     extents = table_same extent_codec i;
+    chunks = record {
+      rows = table_same row_codec i;
+      places = table_same place_codec i;
+      containers = table_same container_codec i;
+      clusters = table_same cluster_codec i;
+    };
     settings = table_same settings_codec i;
     results = table_same result_codec i;
   }

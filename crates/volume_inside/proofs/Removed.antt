@@ -192,6 +192,7 @@ module _ (n : ℕ) (t : Typed) (rules : RulesHold n t) (name : List ℕ) (id : �
     };
     files = each_where_key nat_cmp (FileHolds (next_id_of t)) files_test t.files rules.files;
     extents = extents_hold t.extents rules.extents;
+    chunks = rules.chunks;
     clusters = once_kept (0, 0) (base_clusters t) blocks_test t.extents rules.clusters;
   }
 
@@ -236,6 +237,7 @@ module _ (n : ℕ) (t : Typed) (rules : RulesHold n t) (from to : List ℕ) (id 
     };
     files = rules.files;
     extents = rules.extents;
+    chunks = rules.chunks;
     clusters = rules.clusters;
   }
     where

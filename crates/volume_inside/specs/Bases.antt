@@ -1,51 +1,53 @@
--- Bases of files, from which the cells come that no extent holds. No table holds a base yet, so a cell that a base is
--- to cover is lost. What bases are made of, and which ranges and clusters that names, is said here alone.
-use Rattle.std.specs.Prelude.{◌≡◌, ◌*◌, ℕ, Bool, true, false, nat_lt, List, [], if◌then◌else◌, refl}
+-- Bases of files, from which the cells come that no extent holds. What bases are made of, and which ranges and
+-- clusters that names, is said here alone.
+use Rattle.std.specs.Prelude.{◌≡◌, ◌*◌, ℕ, Bool, true, false, nat_lt, List, if◌then◌else◌, refl}
 use Rattle.std.proofs.Common.{arith, ltb-true}
-use Rattle.plain_volume.specs.Volume.{Cell, Byte, Lost}
+use Rattle.plain_volume.specs.Volume.{Cell, Byte}
 use Rattle.table_records.specs.declared.records.FileRecord.{FileRecord}
 use Rattle.volume_inside.specs.Typed.{Typed}
 use Rattle.volume_inside.specs.Layout.{journal_at, half_bytes, AreData}
 use Rattle.volume_inside.specs.Lists.{IsOut}
 use Rattle.volume_inside.specs.Ranges.{IsApart, AgreesIn}
+use Rattle.volume_inside.specs.Pages.{page_ranges, page_clusters}
+pub use Rattle.volume_inside.specs.Chunks.{Bases}
+use Rattle.volume_inside.specs.Chunks.{chunk, chunks_at}
+use Rattle.volume_inside.specs.BaseCells.{map_cell}
+use Rattle.volume_inside.specs.PageFrame.{chunks_agree, pages_unnamed, pages_apart}
 
--- what the bases are made of
-abbrev pub Bases : Type 0
-Bases = Unit {0}
-
+-- what the bases are made of: rows, and the bytes of their copies
 abbrev pub bases_of : Typed → List ℕ → Bases
-bases_of t image = tt
+bases_of t image = chunks_at t.chunks image
 
--- the ranges whose bytes bases are made of, each a place and a length
+-- the ranges whose bytes bases are made of, each a place and a length: of each container, what is used
 abbrev pub base_ranges : Typed → List (ℕ × ℕ)
-base_ranges t = []
+base_ranges t = page_ranges t.chunks.containers t.chunks.clusters
 
 -- the clusters that hold these bytes
 abbrev pub base_clusters : Typed → List ℕ
-base_clusters t = []
+base_clusters t = page_clusters t.chunks.clusters
 
--- the cell that the base of a file gives at an offset
+-- the cell that the base of a file gives at an offset, and zero behind what it covers
 unfoldable pub base_cell : Bases → FileRecord → ℕ → Cell
-base_cell bases file p = if nat_lt p file.covers then Lost else Byte 0
+base_cell b file p = if nat_lt p file.covers then map_cell b (chunk b file.map_row) p else Byte 0
 
 -- bases are the same over images that agree in their ranges
 pub bases_agree : (t : Typed) (old new : List ℕ) → AgreesIn (base_ranges t) old new → bases_of t new ≡ bases_of t old
-bases_agree t old new agrees = refl
+bases_agree t old new agrees = chunks_agree t.chunks old new agrees
 
 -- a cluster that no base names has no byte in their ranges
 pub bases_unnamed : (c : ℕ) (t : Typed) → IsOut c (base_clusters t) → IsApart (4096 * c) 4096 (base_ranges t)
-bases_unnamed c t out = tt
+bases_unnamed c t out = pages_unnamed c t.chunks.containers t.chunks.clusters out
 
 -- bases whose clusters are data clusters have no byte in the journal
 pub bases_apart : (n : ℕ) (t : Typed) → AreData n (base_clusters t)
     → IsApart journal_at (2 * half_bytes n) (base_ranges t)
-bases_apart n t data_clusters = tt
+bases_apart n t data_clusters = pages_apart n t.chunks.containers t.chunks.clusters data_clusters
 
 -- where a base covers nothing, it gives zeros
-pub uncovered_cell : (bases : Bases) (file : FileRecord) (p : ℕ) → file.covers ≡ 0 → base_cell bases file p ≡ Byte 0
+pub uncovered_cell : (b : Bases) (file : FileRecord) (p : ℕ) → file.covers ≡ 0 → base_cell b file p ≡ Byte 0
 unfolding base_cell
-uncovered_cell bases file p none = by (nat_lt p file.covers) (λ is. omega (arith, ltb-true p file.covers is, none))
+uncovered_cell b file p none = by (nat_lt p file.covers) (λ is. omega (arith, ltb-true p file.covers is, none))
   where
-    by : (t : Bool) → (t ≡ true → ⊥) → (if t then Lost else Byte 0) ≡ Byte 0
+    by : (t : Bool) → (t ≡ true → ⊥) → (if t then map_cell b (chunk b file.map_row) p else Byte 0) ≡ Byte 0
     by true never = absurd (never refl)
     by false never = refl

@@ -20,6 +20,7 @@ use Rattle.volume_inside.specs.Layout.{IsDataCluster}
 use Rattle.volume_inside.specs.Entries.{Each}
 pub use Rattle.volume_inside.specs.Lists.{IsOut, IsOnce}
 use Rattle.volume_inside.specs.Named.{clusters_of}
+use Rattle.volume_inside.specs.ChunkRules.{ChunksHold, RowsHold, RedirectsHold, PlacesHold, ContainersHold}
 
 -- ---- the records that are always there
 
@@ -120,6 +121,7 @@ pub record RulesHold (n : ℕ) (t : Typed) : Type 0 where
   pub names : NamesHold t.names t.files
   pub files : FilesHold (next_id_of t) t.files
   pub extents : ExtentsHold n t.files t.extents
+  pub chunks : ChunksHold n (next_id_of t) t.chunks
   pub clusters : ClustersHold t
 
 -- The map is one of a volume of n clusters: its pairs are well formed, and its tables meet the rules.
@@ -133,8 +135,8 @@ pub record IsVolume (n : ℕ) (m : Map) : Type 0 where
 abbrev pub Broken : ℕ → ℕ → Type 0 → Type 0 → Type 0
 Broken k number rule later = ((k ≡ number) × (rule → ⊥)) ⊎ (rule × later)
 
--- Of the rules in their order, k is the first one that does not hold. Rules of tables that no volume has yet have the
--- numbers between.
+-- Of the rules in their order, k is the first one that does not hold. As no file has a base yet, those on the maps of
+-- bases, 4 and 12, hold where rule 3 does; rule 11 is on a table that no volume has yet.
 abbrev pub IsLeastBroken : ℕ → Map → ℕ → Type 0
 IsLeastBroken n m k =
     let t = typed_of m in
@@ -142,4 +144,8 @@ IsLeastBroken n m k =
     (Broken k 2 (NamesHold t.names t.files)
     (Broken k 3 (FilesHold (next_id_of t) t.files)
     (Broken k 5 (ExtentsHold n t.files t.extents)
-    (Broken k 10 (ClustersHold t) ⊥))))
+    (Broken k 6 (RowsHold (next_id_of t) t.chunks)
+    (Broken k 7 (RedirectsHold t.chunks)
+    (Broken k 8 (PlacesHold t.chunks)
+    (Broken k 9 (ContainersHold n (next_id_of t) t.chunks)
+    (Broken k 10 (ClustersHold t) ⊥))))))))

@@ -9,6 +9,7 @@ use Rattle.table_records.specs.declared.records.FileRecord.{FileRecord}
 use Rattle.table_records.specs.declared.records.Extent.{Extent}
 use Rattle.table_records.specs.declared.records.ResultRecord.{ResultRecord}
 use Rattle.table_records.specs.declared.settings.Settings.{Settings}
+use Rattle.volume_inside.specs.ChunkTables.{ChunkTables, chunk_tables_of}
 
 -- a file, and which of its blocks of 4096 bytes
 abbrev pub FileBlock : Type 0
@@ -19,6 +20,7 @@ pub record Typed : Type 0 where
   pub names : List (List ℕ × ℕ)
   pub files : List (ℕ × FileRecord)
   pub extents : List (FileBlock × Extent)
+  pub chunks : ChunkTables
   pub settings : List (Unit {0} × Settings)
   pub results : List (JobKind × ResultRecord)
 
@@ -29,6 +31,7 @@ typed_of m = record {
   names = typed name_codec m;
   files = typed file_codec m;
   extents = typed extent_codec m;
+  chunks = chunk_tables_of m;
   settings = typed settings_codec m;
   results = typed result_codec m;
 }

@@ -22,6 +22,19 @@ ghost use Rattle.volume_inside.specs.Space.{IsSpaced};
 ghost use Rattle.volume_inside.specs.Fresh.{fresh_map, fresh_tables};
 ghost use Rattle.volume_inside.specs.Laws.{IsWhole, DataWritesKeep, CommitsShowEither, CommitsSettle};
 
+pub use crate::base_laws::{
+    a_base_of_the_same_cells_shows_the_same_volume, a_recalled_block_shows_the_same_volume,
+    appends_leave_the_copies, chunks_are_sound_copies, containers_hold_the_bytes_that_are_used,
+    damage_loses_cells_and_changes_none, more_rows_leave_the_chunks,
+    redirects_between_equal_chunks_leave_them, tails_are_free_after_a_commit, tails_go_on,
+    the_same_chunks_show_the_same_volume,
+};
+pub use crate::changes::{
+    extents_over_their_own_clusters_keep_the_rules, files_that_are_deleted_keep_the_rules,
+    files_that_are_made_keep_the_rules, files_that_are_renamed_keep_the_rules,
+    one_file_is_seen_under_one_name, records_in_which_blocks_lie_keep_the_rules,
+};
+pub use crate::page_laws::spaces_go_on_with_pages;
 use vdisk::Disk;
 
 /// What changes apart from the ranges that tables name leaves what they hold.

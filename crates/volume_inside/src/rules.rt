@@ -5,7 +5,8 @@ ghost use Rattle.std.specs.FinMap.{find};
 ghost use Rattle.table_records.specs.declared.records.FileRecord.{FileRecord};
 ghost use Rattle.volume_inside.specs.Rules.{IsVolumeRecord, AreSettings, are_lawful_texts, IsResultRecord, FileHolds, ExtentHolds};
 
-use crate::layout::is_data_cluster;
+use crate::layout::{CLUSTER_BYTES, is_data_cluster};
+use groundwork::LAST_ID;
 use plain_volume::limits::MOST_BYTES_OF_A_FILE;
 use plain_volume::text_is_lawful;
 use table_records::{Extent, FileRecord, ResultRecord, Settings, Texts, VolumeRecord};
@@ -14,7 +15,7 @@ use table_records::{Extent, FileRecord, ResultRecord, Settings, Texts, VolumeRec
 pub fn volume_record_holds(volume: VolumeRecord) -> bool
     ensures { IsTrue result ↔ IsVolumeRecord volume }
 {
-    volume.version == 1 && volume.next_id >= 1 && volume.next_id <= 0xffff_ffff_ffff
+    volume.version == 1 && volume.next_id >= 1 && volume.next_id <= LAST_ID
 }
 
 /// Whether settings are in their ranges, and their texts lawful.
@@ -67,8 +68,8 @@ pub fn extent_holds(
 {
     match file {
         Some(file) => {
-            let end = 4096 * key.1 as u64 + extent.valid as u64;
-            let whole = extent.valid >= 1 && extent.valid <= 4096;
+            let end = CLUSTER_BYTES as u64 * key.1 as u64 + extent.valid as u64;
+            let whole = extent.valid >= 1 && extent.valid as u32 <= CLUSTER_BYTES;
             whole && end <= file.length && is_data_cluster(clusters, extent.cluster)
         }
         None => false,

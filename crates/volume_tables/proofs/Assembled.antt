@@ -28,7 +28,7 @@ use Rattle.volume_inside.specs.Typed.{Typed, typed_of}
 use Rattle.volume_inside.proofs.Journals.{rules_data}
 use Rattle.volume_tables.specs.Clusters.{AreHeld}
 use Rattle.volume_tables.specs.Contents.{HasContents}
-use Rattle.volume_tables.specs.Ends.{four_results, staged_results}
+use Rattle.volume_tables.specs.Ends.{all_settled, four_results, staged_results}
 use Rattle.volume_tables.specs.Tables.{with_ends}
 use Rattle.table_records.specs.declared.records.VolumeRecord.{VolumeRecord}
 use Rattle.vdisk.specs.Disk.{DiskState}
@@ -36,7 +36,7 @@ use Rattle.vdisk.specs.Causes.{Rose}
 use Rattle.meta_log.specs.declared.fault.MetaFault.{MetaFault}
 use Rattle.meta_log.specs.declared.fault.MetaFault.TheVariants.{GroupFull, TableFull, Worn, Damaged}
 use Rattle.meta_log.specs.declared.fault.MetaFault.TheVariants.{Failed as MetaFailed, Memory as MetaMemory}
-use Rattle.volume_tables.specs.Mount.{ends_from, read_meta, IsLogFault, mount_fault_of}
+use Rattle.volume_tables.specs.Mount.{read_meta, IsLogFault, mount_fault_of}
 use Rattle.volume_tables.proofs.Keyed.{test_of_all}
 
 holds_true : (b : Bool) → T b → b ≡ true
@@ -86,7 +86,7 @@ four_entries es f sorted found = same_entries kind_cmp kind_total kind_exact es 
 
 pub contents_found : (n : ℕ) (m : Map) (r : Records) → T (is_sorted bytes_cmp m) → IsVolume n m
     → AreRecordsOf (typed_of m) r
-    → HasContents m r.next_id r.settings (ends_from r.results)
+    → HasContents m r.next_id r.settings (all_settled r.results)
 contents_found n m r sorted volume are = record {
   sorted = holds_true (is_sorted bytes_cmp m) sorted;
   spelled = test_of_all m volume.spelled;
@@ -141,15 +141,15 @@ lawful_found n m r volume are = subst (λ (o : Option VolumeRecord). IsSomeAnd o
 -- the results of the tables are those in memory
 pub results_found : (n : ℕ) (m : Map) (r : Records) → T (is_sorted bytes_cmp m) → IsVolume n m
     → AreRecordsOf (typed_of m) r
-    → with_ends (ends_from r.results) (typed_of m) ≡ typed_of m
+    → with_ends (all_settled r.results) (typed_of m) ≡ typed_of m
 results_found n m r sorted volume are =
-    let there : typed result_codec m ≡ staged_results (ends_from r.results) =
+    let there : typed result_codec m ≡ staged_results (all_settled r.results) =
     (contents_found n m r sorted volume are).ends_there in
     ap (λ (es : List (JobKind × ResultRecord)). record (typed_of m) { results = es }) (sym there)
 
 pub rules_found : (n : ℕ) (m : Map) (r : Records) → T (is_sorted bytes_cmp m) → IsVolume n m
     → AreRecordsOf (typed_of m) r
-    → RulesHold n (with_ends (ends_from r.results) (typed_of m))
+    → RulesHold n (with_ends (all_settled r.results) (typed_of m))
 rules_found n m r sorted volume are = subst (λ (t : Typed). RulesHold n t)
     (sym (results_found n m r sorted volume are)) volume.rules
 

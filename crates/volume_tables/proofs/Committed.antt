@@ -31,14 +31,14 @@ use Rattle.byte_map.specs.Words.{Map}
 use Rattle.meta_log.specs.Meta.{meta_of}
 use Rattle.meta_log.specs.Ready.{IsSettledImage}
 use Rattle.volume_inside.specs.Fresh.{fresh_map}
-use Rattle.volume_tables.specs.Formats.{IsCommitted, IsFormatFault}
+use Rattle.volume_tables.specs.Formats.{SpellsFresh, IsFormatFault}
 
 some_pairs : [] ≡ fresh_map → ⊥
 some_pairs is = cc
 
 pub committed : (at half at₁ half₁ : ℕ) (s : DiskState) (image : List ℕ) (n : Map) (c : List ℕ) → at₁ ≡ at
     → half₁ ≡ half → n ≡ fresh_map → s.image ≡ image
-    → IsSettledImage at₁ half₁ s [] n c → IsCommitted at half image c
+    → IsSettledImage at₁ half₁ s [] n c → SpellsFresh at half image c
 committed at half at₁ half₁ s image n c same_at same_half is same settled = record {
   spells = (λ i. meta_of (sym same_at i) (sym same_half i) c) ∙ settled.0 ∙ ap (λ (m : Map). Ok m) is;
   change = by settled.1;
@@ -95,7 +95,7 @@ superblock_on n at size old c behind change has = record {
 }
 
 pub committed_shows : (n : ℕ) (image c : List ℕ) → HasSuperblock n image → length image ≡ 4096 * n
-    → IsCommitted journal_at (half_bytes n) image c
+    → SpellsFresh journal_at (half_bytes n) image c
     → Shows (record { clusters = n; meta = meta_of journal_at (half_bytes n) }) [] c
 committed_shows n image c has size made =
     fresh_shows (record { clusters = n; meta = meta_of journal_at (half_bytes n) }) c fresh_map
@@ -113,7 +113,7 @@ module _ {D : Type 0} {d : Ghosts D} (t : Tables D d) (n : ℕ) (is : t.clusters
   }
 
   pub formatted_kept : (image : List ℕ) → HasSuperblock n image → length image ≡ 4096 * n
-      → ((c : List ℕ) → (disk_of t).may_leave c → IsCommitted journal_at (half_bytes n) image c)
+      → ((c : List ℕ) → (disk_of t).may_leave c → SpellsFresh journal_at (half_bytes n) image c)
       → Kept (area_of t) (disk_of t) []
   formatted_kept image has size settled = λ c left.
       subst (λ (k : ℕ). Shows (record { clusters = k; meta = meta_of journal_at (half_bytes k) }) [] c) (sym is)

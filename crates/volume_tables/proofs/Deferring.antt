@@ -1,5 +1,5 @@
--- The clusters of the extents of a range, as they are deferred.
-use Rattle.std.specs.Prelude.{◌≡◌, ◌≢◌, ◌≤◌, ◌+◌, ◌-◌, ◌*◌, ℕ, Bool, true, false, cond, not, List, [], ◌∷◌, ◌++◌}
+-- The clusters of the entries of a range, as they are deferred.
+use Rattle.std.specs.Prelude.{◌≡◌, ◌≢◌, ◌≤◌, ◌+◌, ◌-◌, ◌*◌, ℕ, Bool, true, false, cond, List, [], ◌∷◌}
 use Rattle.std.specs.Prelude.{length, slice_set, refl}
 use Rattle.std.proofs.Common.{sym, ◌∙◌, subst, arith, length-set}
 use Rattle.std.proofs.lemmas.List.{get_or-set_other}
@@ -11,12 +11,11 @@ use Rattle.table_records.specs.Keys.{pair_cmp}
 use Rattle.table_records.specs.declared.records.Extent.{Extent}
 use Rattle.volume_inside.specs.Layout.{half_bytes, journal_at, first_data_cluster, data_clusters, AreData}
 use Rattle.volume_inside.specs.Typed.{Typed, FileBlock}
-use Rattle.volume_inside.specs.Changes.{keep_extents}
 use Rattle.volume_inside.specs.Named.{named, clusters_of, extent_clusters}
-use Rattle.volume_inside.specs.Bases.{base_clusters}
 use Rattle.volume_inside.specs.Lists.{IsOut, IsOnce}
 use Rattle.volume_inside.proofs.Spaces.{named_used}
-use Rattle.volume_tables.specs.Clusters.{HasState, AreHeld, all_deferred}
+use Rattle.volume_inside.proofs.Naming.{Marks, all_of, gone_of, gone_out, IsParted, AreOut, parted_apart, extents_parted}
+use Rattle.volume_tables.specs.Clusters.{HasState, AreHeld, each_deferred}
 use Rattle.vdisk.specs.Steps.{Keeps, keeps_start}
 use Rattle.vdisk.specs.declared.disk.Disk.{Ghosts}
 use Rattle.volume_inside.specs.Ranges.{IsApart}
@@ -24,150 +23,101 @@ use Rattle.volume_inside.specs.Shows.{Shows}
 use Rattle.volume_tables.specs.Staging.{IsQuiet}
 use Rattle.volume_tables.specs.Tables.{disk_of, area_of, Leaves}
 use Rattle.volume_tables.specs.declared.tables.Tables.{Tables}
-use Rattle.volume_tables.specs.Dropped.{AreUsedOnce}
-use Rattle.volume_tables.proofs.Held.{held_deferred_at, held_kept}
+use Rattle.volume_tables.specs.Dropped.{AreUsed, AreUsedOnce}
+use Rattle.volume_tables.proofs.Held.{held_deferred_at, held_parted}
 use Rattle.volume_tables.proofs.Leaving.{IsNoFreer, set_no_freer, deferred_is_not_free}
-
-abbrev Entries : Type 0
-Entries = List (FileBlock × Extent)
-
--- no cluster of these extents is one of those
-abbrev AreOut : Entries → List ℕ → Type 0
-AreOut [] cs = Unit {0}
-AreOut (e ∷ es) cs = IsOut e.1.cluster cs × AreOut es cs
-
-out_kept : (ss : List ℕ) (test : FileBlock → Bool) (c : ℕ) (es : Entries) → IsOut c (extent_clusters es ++ ss)
-    → IsOut c (extent_clusters (where_key pair_cmp test es) ++ ss)
-out_kept ss test c [] out = out
-out_kept ss test c (x ∷ es) out =
-    elim (test x.0) as (λ b. IsOut c (extent_clusters
-    (cond b (x ∷ where_key pair_cmp test es) (where_key pair_cmp test es)) ++ ss)) [
-      | true ↦ (out.0, out_kept ss test c es out.1)
-      | false ↦ out_kept ss test c es out.1
-    ]
 
 -- ---- one cluster is deferred
 
-still_used : (first c : ℕ) (states : List State) (es : Entries) → first ≤ c → IsOut c (extent_clusters es)
-    → AreUsedOnce first states es
-    → AreUsedOnce first (slice_set states (c - first) Deferred) es
+still_used : (first c : ℕ) (states : List State) (cs : List ℕ) → first ≤ c → IsOut c cs → AreUsed first states cs
+    → AreUsed first (slice_set states (c - first) Deferred) cs
 still_used first c states [] low out used = tt
-still_used first c states (e ∷ es) low out used =
-    let other : e.1.cluster - first ≢ c - first = λ same. out.0 (omega (arith, same, low, used.0)) in (
+still_used first c states (x ∷ cs) low out used =
+    let other : x - first ≢ c - first = λ same. out.0 (omega (arith, same, low, used.0)) in (
       used.0,
       (
         record {
           within = omega (arith, used.1.0.within, length-set states (c - first) Deferred);
-          state = get_or-set_other states (c - first) (e.1.cluster - first) Deferred Used other ∙ used.1.0.state;
+          state = get_or-set_other states (c - first) (x - first) Deferred Used other ∙ used.1.0.state;
         },
-        (used.1.1.0, still_used first c states es low out.1 used.1.1.1),
+        (used.1.1.0, still_used first c states cs low out.1 used.1.1.1),
       ),
     )
 
 -- the clusters behind one stay used when it is deferred
-pub rest_used : (first : ℕ) (states : List State) (e : FileBlock × Extent) (es : Entries)
-    → AreUsedOnce first states (e ∷ es)
-    → AreUsedOnce first (slice_set states (e.1.cluster - first) Deferred) es
-rest_used first states e es used = still_used first e.1.cluster states es used.0 used.1.1.0 used.1.1.1
+pub later_used : (first : ℕ) (states : List State) (c : ℕ) (cs : List ℕ) → AreUsed first states (c ∷ cs)
+    → AreUsed first (slice_set states (c - first) Deferred) cs
+later_used first states c cs used = still_used first c states cs used.0 used.1.1.0 used.1.1.1
 
-pub all_no_freer : (first : ℕ) (es : Entries) (states : List State) → IsNoFreer states (all_deferred first es states)
+-- the same of extents
+pub rest_used : (first : ℕ) (states : List State) (e : FileBlock × Extent) (es : List (FileBlock × Extent))
+    → AreUsedOnce first states (e ∷ es) → AreUsedOnce first (slice_set states (e.1.cluster - first) Deferred) es
+rest_used first states e es used = later_used first states e.1.cluster (extent_clusters es) used
+
+pub all_no_freer : (first : ℕ) (cs : List ℕ) (states : List State) → IsNoFreer states (each_deferred first cs states)
 all_no_freer first [] states = λ k at. at
-all_no_freer first (e ∷ es) states = λ k at.
-    set_no_freer states (e.1.cluster - first) Deferred deferred_is_not_free k
-    (all_no_freer first es (slice_set states (e.1.cluster - first) Deferred) k at)
+all_no_freer first (c ∷ cs) states = λ k at.
+    set_no_freer states (c - first) Deferred deferred_is_not_free k
+    (all_no_freer first cs (slice_set states (c - first) Deferred) k at)
 
-pub all_length : (first : ℕ) (es : Entries) (states : List State)
-    → length (all_deferred first es states) ≡ length states
+pub all_length : (first : ℕ) (cs : List ℕ) (states : List State)
+    → length (each_deferred first cs states) ≡ length states
 all_length first [] states = refl
-all_length first (e ∷ es) states =
-    all_length first es (slice_set states (e.1.cluster - first) Deferred)
-    ∙ length-set states (e.1.cluster - first) Deferred
+all_length first (c ∷ cs) states =
+    all_length first cs (slice_set states (c - first) Deferred) ∙ length-set states (c - first) Deferred
 
 -- ---- the clusters that tables name are used
 
 module _ (n : ℕ) (states : List State) (t : Typed) (held : AreHeld n states t) (size : length states ≡ data_clusters n)
-    (test : FileBlock → Bool) where
-  used_in : (es : Entries) → ((c : ℕ) → IsOut c (clusters_of t) → IsOut c (extent_clusters es ++ base_clusters t))
-      → AreData n (extent_clusters es ++ base_clusters t) → IsOnce (extent_clusters es ++ base_clusters t)
-      → AreUsedOnce (first_data_cluster n) states (where_key pair_cmp test es)
-  used_in [] part in_data once = tt
-  used_in (e ∷ es) part in_data once =
-      let low = in_data.0.from_first in
-      let place : first_data_cluster n + (e.1.cluster - first_data_cluster n) ≡ e.1.cluster = omega (arith, low) in
-      let rest = used_in es (λ c out. (part c out).1) in_data.1 once.1 in
-      let here : IsIn states (e.1.cluster - first_data_cluster n) Used =
-      named_used (first_data_cluster n) states t t held.1 (e.1.cluster - first_data_cluster n)
-      (omega (arith, low, in_data.0.within, size))
-      (λ out. (part e.1.cluster (subst (λ (x : ℕ). IsOut x (clusters_of t)) place out)).0 refl) in
-      elim (test e.0) as (λ b. AreUsedOnce (first_data_cluster n) states
-      (cond b (e ∷ where_key pair_cmp test es) (where_key pair_cmp test es))) [
-        | true ↦ (
-          low,
-          (
-            here,
-            (
-              front (extent_clusters (where_key pair_cmp test es)) (base_clusters t) e.1.cluster
-                  (out_kept (base_clusters t) test e.1.cluster es once.0),
-              rest,
-            ),
-          ),
-        )
-        | false ↦ rest
-      ]
-    where
-      front : (xs ss : List ℕ) (c : ℕ) → IsOut c (xs ++ ss) → IsOut c xs
-      front [] ss c out = tt
-      front (x ∷ xs) ss c out = (out.0, front xs ss c out.1)
+  where
+    used_in : (ms : Marks) → ((c : ℕ) → IsOut c (clusters_of t) → IsOut c (all_of ms)) → AreData n (all_of ms)
+        → IsOnce (all_of ms) → AreUsed (first_data_cluster n) states (gone_of ms)
+    used_in [] part in_data once = tt
+    used_in (m ∷ ms) part in_data once =
+        let low = in_data.0.from_first in
+        let place : first_data_cluster n + (m.1 - first_data_cluster n) ≡ m.1 = omega (arith, low) in
+        let rest = used_in ms (λ c out. (part c out).1) in_data.1 once.1 in
+        let here : IsIn states (m.1 - first_data_cluster n) Used =
+        named_used (first_data_cluster n) states t t held.1 (m.1 - first_data_cluster n)
+        (omega (arith, low, in_data.0.within, size))
+        (λ out. (part m.1 (subst (λ (x : ℕ). IsOut x (clusters_of t)) place out)).0 refl) in
+        elim m.0 as (λ b. AreUsed (first_data_cluster n) states (cond b (m.1 ∷ gone_of ms) (gone_of ms))) [
+          | true ↦ (low, (here, (gone_out m.1 ms once.0, rest)))
+          | false ↦ rest
+        ]
 
-  pub held_used_once : AreUsedOnce (first_data_cluster n) states (where_key pair_cmp test t.extents)
-  held_used_once = used_in t.extents (λ c out. out) held.0 held.1.once
+    -- those that are gone were used
+    pub gone_used : (kept gone : List ℕ) → IsParted (clusters_of t) kept gone
+        → AreUsed (first_data_cluster n) states gone
+    gone_used kept gone p = subst (λ (cs : List ℕ). AreUsed (first_data_cluster n) states cs) (sym p.gone_is)
+        (used_in p.marks (λ c out. subst (λ (cs : List ℕ). IsOut c cs) p.all_is out)
+        (subst (λ (cs : List ℕ). AreData n cs) p.all_is held.0)
+        (subst (λ (cs : List ℕ). IsOnce cs) p.all_is held.1.once))
 
--- ---- the tables without these extents
+    pub held_used_once : (test : FileBlock → Bool)
+        → AreUsedOnce (first_data_cluster n) states (where_key pair_cmp test t.extents)
+    held_used_once test = gone_used _ _ (extents_parted t test)
+
+-- ---- the tables without these clusters
 
 module _ (n : ℕ) (q : Typed) where
-  held_all_deferred : (es : Entries) (states : List State) → AreUsedOnce (first_data_cluster n) states es
-      → AreOut es (clusters_of q)
-      → AreHeld n states q → AreHeld n (all_deferred (first_data_cluster n) es states) q
+  held_all_deferred : (cs : List ℕ) (states : List State) → AreUsed (first_data_cluster n) states cs
+      → AreOut cs (clusters_of q)
+      → AreHeld n states q → AreHeld n (each_deferred (first_data_cluster n) cs states) q
   held_all_deferred [] states used out held = held
-  held_all_deferred (e ∷ es) states used out held =
-      let has : HasState n states Used e.1.cluster = record { from_first = used.0; is = used.1.0 } in
-      held_all_deferred es (slice_set states (e.1.cluster - first_data_cluster n) Deferred)
-      (rest_used (first_data_cluster n) states e es used) out.1
-      (held_deferred_at n states q held e.1.cluster Used has out.0)
+  held_all_deferred (c ∷ cs) states used out held =
+      let has : HasState n states Used c = record { from_first = used.0; is = used.1.0 } in
+      held_all_deferred cs (slice_set states (c - first_data_cluster n) Deferred)
+      (later_used (first_data_cluster n) states c cs used) out.1
+      (held_deferred_at n states q held c Used has out.0)
 
-module _ (test : FileBlock → Bool) (ss : List ℕ) where
-  out_one : (c : ℕ) (ds : Entries) (cs : List ℕ) → IsOut c (extent_clusters ds) → AreOut ds cs → AreOut ds (c ∷ cs)
-  out_one c [] cs apart out = tt
-  out_one c (d ∷ ds) cs apart out = ((λ same. apart.0 (sym same), out.0), out_one c ds cs apart.1 out.1)
-
-  front_out : (c : ℕ) (xs : List ℕ) → IsOut c (xs ++ ss) → IsOut c xs
-  front_out c [] out = tt
-  front_out c (x ∷ xs) out = (out.0, front_out c xs out.1)
-
-  parted : (es : Entries) → IsOnce (extent_clusters es ++ ss)
-      → AreOut (where_key pair_cmp test es) (extent_clusters (where_key pair_cmp (λ k. not (test k)) es) ++ ss)
-  parted [] once = tt
-  parted (e ∷ es) once =
-      let rest = parted es once.1 in
-      elim (test e.0) as (λ b. AreOut (cond b (e ∷ where_key pair_cmp test es) (where_key pair_cmp test es))
-      (extent_clusters (cond (not b) (e ∷ where_key pair_cmp (λ k. not (test k)) es)
-      (where_key pair_cmp (λ k. not (test k)) es)) ++ ss)) [
-        | true ↦ (out_kept ss (λ k. not (test k)) e.1.cluster es once.0, rest)
-        | false ↦ out_one e.1.cluster (where_key pair_cmp test es)
-            (extent_clusters (where_key pair_cmp (λ k. not (test k)) es) ++ ss)
-            (front_out e.1.cluster (extent_clusters (where_key pair_cmp test es))
-            (out_kept ss test e.1.cluster es once.0)) rest
-      ]
-
--- extents are dropped and their clusters deferred
+-- clusters are named no more, and are deferred
 pub held_dropped : (n : ℕ) (states : List State) (t : Typed) → AreHeld n states t → length states ≡ data_clusters n
-    → (test : FileBlock → Bool)
-    → AreHeld n (all_deferred (first_data_cluster n) (where_key pair_cmp test t.extents) states)
-    (keep_extents (λ k. not (test k)) t)
-held_dropped n states t held size test =
-    held_all_deferred n (keep_extents (λ k. not (test k)) t) (where_key pair_cmp test t.extents) states
-    (held_used_once n states t held size test) (parted test (base_clusters t) t.extents held.1.once)
-    (held_kept n states t held (λ k. not (test k)))
+    → (q : Typed) (gone : List ℕ) → IsParted (clusters_of t) (clusters_of q) gone
+    → AreHeld n (each_deferred (first_data_cluster n) gone states) q
+held_dropped n states t held size q gone p =
+    held_all_deferred n q gone states (gone_used n states t held size (clusters_of q) gone p)
+    (parted_apart p held.1.once) (held_parted n states t held q gone p)
 
 module _ {D : Type 0} {d : Ghosts D} where
   -- a call that stages and frees no cluster

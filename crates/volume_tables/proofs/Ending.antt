@@ -20,16 +20,16 @@ use Rattle.table_records.specs.declared.jobs.JobKind.TheVariants.{Unoptimization
 use Rattle.table_records.specs.declared.records.ResultRecord.{ResultRecord}
 use Rattle.table_records.specs.declared.settings.Settings.{Settings}
 use Rattle.vdisk.specs.declared.disk.Disk.{Ghosts}
+use Rattle.table_rules.specs.Found.{result_of}
 use Rattle.volume_inside.specs.Changes.{with_result}
 use Rattle.volume_inside.specs.Typed.{Typed, typed_of}
 use Rattle.volume_tables.specs.Contents.{HasContents, HasEnds}
-use Rattle.volume_tables.specs.Ends.{end_of, with_last, staged_end, with_staged, all_staged, results_now}
+use Rattle.volume_tables.specs.Ends.{with_last, with_staged, all_staged, results_now}
 use Rattle.volume_tables.specs.Ends.{staged_results, same_result, one_unless}
 use Rattle.volume_tables.specs.Log.{log_now, log_staged}
 use Rattle.volume_tables.specs.Spelled.{are_well_formed}
 use Rattle.volume_tables.specs.Staging.{IsQuiet, IsStagedPut}
 use Rattle.volume_tables.specs.Tables.{with_ends, new_bytes}
-use Rattle.volume_tables.specs.declared.ends.JobEnd.{JobEnd}
 use Rattle.volume_tables.specs.declared.ends.JobEnds.{JobEnds}
 use Rattle.volume_tables.proofs.Answers.{on_ok, as_true, true_as}
 use Rattle.volume_tables.proofs.Keyed.{first_is, second_is}
@@ -55,11 +55,8 @@ staged_stay GarbageCollection r ends = refl
 staged_stay Scrubbing r ends = refl
 staged_stay Unoptimization r ends = refl
 
-abbrev pub last_of : JobKind → JobEnds → ResultRecord
-last_of kind ends = let end = end_of kind ends in end.last
-
 pub end_put : (kind : JobKind) (ends : JobEnds)
-    → put kind_cmp kind (last_of kind ends) (staged_results ends) ≡ staged_results (with_staged kind ends)
+    → put kind_cmp kind (result_of kind ends.last) (staged_results ends) ≡ staged_results (with_staged kind ends)
 end_put Optimization ends = refl
 end_put GarbageCollection ends = refl
 end_put Scrubbing ends = refl
@@ -79,28 +76,26 @@ same_records a b same = λ i. record {
   result = eqb-true a.result b.result (second_is _ _ same) i;
 }
 
-settled_one : (end : JobEnd) → end.last ≡ end.staged → staged_end end ≡ end
-settled_one end same = λ i. record { last = end.last; staged = same i }
-
-pub settled_end : (kind : JobKind) (ends : JobEnds) → staged_end (end_of kind ends) ≡ end_of kind ends
+settled_end : (kind : JobKind) (ends : JobEnds) → result_of kind ends.last ≡ result_of kind ends.staged
     → with_staged kind ends ≡ ends
-settled_end Optimization ends same = λ i. record ends { optimization = same i }
-settled_end GarbageCollection ends same = λ i. record ends { garbage_collection = same i }
-settled_end Scrubbing ends same = λ i. record ends { scrubbing = same i }
-settled_end Unoptimization ends same = λ i. record ends { unoptimization = same i }
+settled_end Optimization ends same = λ i. record ends { staged = record ends.staged { optimization = same i } }
+settled_end GarbageCollection ends same =
+    λ i. record ends { staged = record ends.staged { garbage_collection = same i } }
+settled_end Scrubbing ends same = λ i. record ends { staged = record ends.staged { scrubbing = same i } }
+settled_end Unoptimization ends same = λ i. record ends { staged = record ends.staged { unoptimization = same i } }
 
-pub settled_same : (kind : JobKind) (ends : JobEnds) (end : JobEnd) → end ≡ end_of kind ends → end.last ≡ end.staged
+pub settled_same : (kind : JobKind) (ends : JobEnds) (last staged : ResultRecord) → last ≡ result_of kind ends.last
+    → staged ≡ result_of kind ends.staged → last ≡ staged
     → with_staged kind ends ≡ ends
-settled_same kind ends end is same = settled_end kind ends
-    (subst (λ (e : JobEnd). staged_end e ≡ e) is (settled_one end same))
+settled_same kind ends last staged now was same = settled_end kind ends (sym now ∙ same ∙ was)
 
 -- the table of results where the end of a kind is staged
 pub settled_put : (m : Map) (kind : JobKind) (ends : JobEnds) → HasEnds m ends → with_staged kind ends ≡ ends
-    → typed_of m ≡ with_result kind (last_of kind ends) (typed_of m)
+    → typed_of m ≡ with_result kind (result_of kind ends.last) (typed_of m)
 settled_put m kind ends has same =
-    let there : typed result_codec m ≡ put kind_cmp kind (last_of kind ends) (typed result_codec m) =
+    let there : typed result_codec m ≡ put kind_cmp kind (result_of kind ends.last) (typed result_codec m) =
     has.ends_there ∙ ap staged_results (sym same) ∙ sym (end_put kind ends)
-    ∙ ap (λ es. put kind_cmp kind (last_of kind ends) es) (sym has.ends_there) in
+    ∙ ap (λ es. put kind_cmp kind (result_of kind ends.last) es) (sym has.ends_there) in
     λ i. record (typed_of m) { results = there i }
 
 -- ---- an end is staged
@@ -184,20 +179,20 @@ unstaged_most false = omega arith
 
 -- the four puts make the results of the map those now
 pub four_put : (m : Map) (a b c q : Typed) (ends : JobEnds) → typed result_codec m ≡ staged_results ends
-    → a ≡ with_result Optimization (last_of Optimization ends) (typed_of m)
-    → b ≡ with_result GarbageCollection (last_of GarbageCollection ends) a
-    → c ≡ with_result Scrubbing (last_of Scrubbing ends) b
-    → q ≡ with_result Unoptimization (last_of Unoptimization ends) c
+    → a ≡ with_result Optimization (result_of Optimization ends.last) (typed_of m)
+    → b ≡ with_result GarbageCollection (result_of GarbageCollection ends.last) a
+    → c ≡ with_result Scrubbing (result_of Scrubbing ends.last) b
+    → q ≡ with_result Unoptimization (result_of Unoptimization ends.last) c
     → q ≡ with_ends ends (typed_of m)
 four_put m a b c q ends there one two three four =
-    four ∙ ap (λ (x : Typed). with_result Unoptimization (last_of Unoptimization ends) x)
-    (three ∙ ap (λ (x : Typed). with_result Scrubbing (last_of Scrubbing ends) x)
-    (two ∙ ap (λ (x : Typed). with_result GarbageCollection (last_of GarbageCollection ends) x) one))
+    four ∙ ap (λ (x : Typed). with_result Unoptimization (result_of Unoptimization ends.last) x)
+    (three ∙ ap (λ (x : Typed). with_result Scrubbing (result_of Scrubbing ends.last) x)
+    (two ∙ ap (λ (x : Typed). with_result GarbageCollection (result_of GarbageCollection ends.last) x) one))
     ∙ (λ i. record (typed_of m) {
-      results = put kind_cmp Unoptimization (last_of Unoptimization ends)
-          (put kind_cmp Scrubbing (last_of Scrubbing ends)
-          (put kind_cmp GarbageCollection (last_of GarbageCollection ends)
-          (put kind_cmp Optimization (last_of Optimization ends) (there i))));
+      results = put kind_cmp Unoptimization (result_of Unoptimization ends.last)
+          (put kind_cmp Scrubbing (result_of Scrubbing ends.last)
+          (put kind_cmp GarbageCollection (result_of GarbageCollection ends.last)
+          (put kind_cmp Optimization (result_of Optimization ends.last) (there i))));
     })
 
 -- the contents of a map whose ends are all staged now

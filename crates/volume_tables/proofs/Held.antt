@@ -1,5 +1,5 @@
 -- The clusters that the tables now name, as they are taken, named, given up and released.
-use Rattle.std.specs.Prelude.{◌≡◌, ◌<◌, ◌+◌, ◌-◌, ◌*◌, ℕ, Bool, List, length, map, T}
+use Rattle.std.specs.Prelude.{◌≡◌, ◌⊎◌, ◌<◌, ◌+◌, ◌-◌, ◌*◌, ℕ, List, length, map, T, Option, Some, refl}
 use Rattle.std.proofs.Common.{sym, ◌∙◌, ap, subst, inl, inr, arith}
 use Rattle.std.specs.FinMap.{find, is_sorted}
 use Rattle.cluster_space.specs.declared.state.State.{State}
@@ -9,14 +9,17 @@ use Rattle.table_records.specs.Keys.{pair_cmp}
 use Rattle.table_records.specs.declared.records.Extent.{Extent}
 use Rattle.volume_inside.specs.Layout.{first_data_cluster, half_bytes, journal_at, AreData}
 use Rattle.volume_inside.specs.Typed.{Typed, FileBlock}
-use Rattle.volume_inside.specs.Changes.{with_extent, keep_extents}
+use Rattle.volume_inside.specs.Changes.{with_extent, with_cluster}
+use Rattle.volume_inside.specs.ChunkTables.{PageKey}
 use Rattle.volume_inside.specs.Ranges.{IsApart}
 use Rattle.volume_inside.specs.Named.{named, clusters_of}
 use Rattle.volume_inside.specs.Lists.{IsOut, IsOnce}
 use Rattle.volume_inside.specs.Space.{IsSpaced}
-use Rattle.volume_inside.proofs.Spaces.{spaced_take, spaced_defer, spaced_set, spaced_same, spaced_keep, spaced_commit}
-use Rattle.volume_inside.proofs.Journals.{journal_apart, data_put, data_kept}
-use Rattle.volume_tables.specs.Clusters.{HasState, AreHeld, IsNoOthers, used_at, deferred_at}
+use Rattle.volume_inside.proofs.Spaces.{spaced_take, spaced_defer, spaced_commit}
+use Rattle.volume_inside.proofs.SpaceChanges.{spaced_put, spaced_parted}
+use Rattle.volume_inside.proofs.Naming.{IsPutIn, IsParted, put_same, put_data, parted_data, extent_put_in, page_put_in}
+use Rattle.volume_inside.proofs.Journals.{journal_apart}
+use Rattle.volume_tables.specs.Clusters.{HasState, AreHeld, IsNoOthers, IsNoOtherPage, cluster_at, used_at, deferred_at}
 
 -- what holds of tables alone, whichever are stored
 own_space : (first : ℕ) (states : List State) (s t : Typed) → IsSpaced first states s t → IsSpaced first states t t
@@ -63,30 +66,43 @@ module _ (n : ℕ) (states : List State) (t : Typed) (held : AreHeld n states t)
             (subst (λ (x : ℕ). IsOut x (clusters_of t)) (sym place) out)),
       )
 
+  -- tables that name one more cluster, which is used, in the place of another if one stood there
+  pub held_put : (q : Typed) (stood : Option ℕ) (c : ℕ) → IsPutIn (clusters_of t) (clusters_of q) stood c → c < n
+      → HasState n states Used c → (stood ≡ Some c) ⊎ IsOut c (clusters_of t) → AreHeld n states q
+  held_put q stood c p below has (inl own) = held_same q
+      (put_same (subst (λ (o : Option ℕ). IsPutIn (clusters_of t) (clusters_of q) o c) own p) refl)
+  held_put q stood c p below has (inr out) =
+      let place : c ≡ first_data_cluster n + (c - first_data_cluster n) = omega (arith, has.from_first) in (
+        put_data p n (record { from_first = has.from_first; within = below }) held.0,
+        own_space (first_data_cluster n) states t q
+            (spaced_put (first_data_cluster n) states t t held.1 q stood c (c - first_data_cluster n) p place has.is
+            out),
+      )
+
+  -- tables that name some of the clusters
+  pub held_parted : (q : Typed) (gone : List ℕ) → IsParted (clusters_of t) (clusters_of q) gone → AreHeld n states q
+  held_parted q gone p = (
+    parted_data p n held.0,
+    own_space (first_data_cluster n) states t q (spaced_parted (first_data_cluster n) states t t held.1 q gone p),
+  )
+
   -- an extent over a used cluster that no other key names
   pub held_set : (k : FileBlock) (e : Extent) → T (is_sorted pair_cmp t.extents) → e.cluster < n
       → HasState n states Used e.cluster → IsNoOthers k e.cluster t
       → AreHeld n states (with_extent k e t)
-  held_set k e sorted below has (inl (o, found, same)) = (
-    data_put n k e t (record { from_first = has.from_first; within = below }) held.0,
-    own_space (first_data_cluster n) states t (with_extent k e t)
-        (spaced_same (first_data_cluster n) states t t held.1 k e o sorted found (sym same)),
-  )
-  held_set k e sorted below has (inr out) =
-      let place : e.cluster ≡ first_data_cluster n + (e.cluster - first_data_cluster n) = omega
-      (arith, has.from_first) in (
-        data_put n k e t (record { from_first = has.from_first; within = below }) held.0,
-        own_space (first_data_cluster n) states t (with_extent k e t)
-            (spaced_set (first_data_cluster n) states t t held.1 k e
-            (e.cluster - first_data_cluster n) place has.is out),
-      )
+  held_set k e sorted below has alone = held_put (with_extent k e t) (cluster_at (find pair_cmp k t.extents)) e.cluster
+      (extent_put_in t k e sorted) below has (by alone)
+    where
+      by : IsNoOthers k e.cluster t → (cluster_at (find pair_cmp k t.extents) ≡ Some e.cluster)
+          ⊎ IsOut e.cluster (clusters_of t)
+      by (inl (o, found, same)) = inl (ap cluster_at found ∙ ap (λ (c : ℕ). Some c) same)
+      by (inr out) = inr out
 
-  pub held_kept : (test : FileBlock → Bool) → AreHeld n states (keep_extents test t)
-  held_kept test = (
-    data_kept n test t held.0,
-    own_space (first_data_cluster n) states t (keep_extents test t)
-        (spaced_keep (first_data_cluster n) states t t held.1 test),
-  )
+  -- a page over one
+  pub held_page : (k : PageKey) (c : ℕ) → T (is_sorted pair_cmp t.chunks.clusters) → c < n → HasState n states Used c
+      → IsNoOtherPage k c t → AreHeld n states (with_cluster k c t)
+  held_page k c sorted below has alone = held_put (with_cluster k c t) (find pair_cmp k t.chunks.clusters) c
+      (page_put_in t k c sorted) below has alone
 
   pub held_released : AreHeld n (map released states) t
   held_released = (held.0, spaced_commit (first_data_cluster n) states t t held.1)

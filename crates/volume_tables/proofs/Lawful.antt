@@ -32,6 +32,7 @@ rules_with_result n t kind r rules known = record {
   names = rules.names;
   files = rules.files;
   extents = rules.extents;
+  chunks = rules.chunks;
   clusters = rules.clusters;
 }
 
@@ -42,6 +43,7 @@ rules_with_settings n t s rules are = record {
   names = rules.names;
   files = rules.files;
   extents = rules.extents;
+  chunks = rules.chunks;
   clusters = rules.clusters;
 }
   where

@@ -15,25 +15,22 @@ use Rattle.meta_log.specs.Meta.{meta_of}
 use Rattle.meta_log.specs.declared.log.MetaLog.{MetaLog}
 use Rattle.plain_volume.specs.declared.call.Fault.{Fault}
 use Rattle.table_records.specs.Keys.{pair_cmp}
-use Rattle.table_records.specs.Next.{sorted_typed}
-use Rattle.table_records.specs.Tables.{extent_codec}
 use Rattle.table_records.specs.declared.records.Extent.{Extent}
 use Rattle.volume_inside.specs.Layout.{half_bytes, journal_at, first_data_cluster, data_clusters, IsDataCluster}
 use Rattle.volume_inside.specs.Layout.{AreData}
 use Rattle.volume_inside.specs.Typed.{Typed, FileBlock, typed_of}
-use Rattle.volume_inside.specs.Changes.{with_extent}
 use Rattle.volume_inside.specs.Ranges.{IsApart}
 use Rattle.volume_inside.specs.Named.{named, clusters_of, extent_clusters}
 use Rattle.volume_inside.specs.Bases.{base_clusters}
 use Rattle.volume_inside.specs.Lists.{IsOut}
 use Rattle.volume_inside.specs.Shows.{Area, Shows, Kept}
-use Rattle.volume_inside.proofs.Spaces.{named_used, found_in, replaced_unnamed}
+use Rattle.volume_inside.proofs.Spaces.{named_used, found_in}
+use Rattle.volume_inside.proofs.Naming.{IsPutIn, put_stood, put_gone}
 use Rattle.volume_tables.specs.Log.{log_state, log_now, log_place, log_epoch, IsLogOf}
-use Rattle.volume_tables.specs.Clusters.{HasState, AreHeld, used_at, deferred_at, deferred_unless, with_replaced}
-use Rattle.volume_tables.specs.Clusters.{with_refused}
+use Rattle.volume_tables.specs.Clusters.{HasState, AreHeld, used_at, deferred_at, deferred_unless, with_other}
+use Rattle.volume_tables.specs.Clusters.{with_spare}
 use Rattle.volume_tables.specs.Tables.{disk_of, area_of, states_of, tables_now, Leaves, IsSet, IsLogSet}
 use Rattle.volume_tables.specs.declared.tables.Tables.{Tables}
-use Rattle.volume_tables.proofs.Answers.{as_true}
 
 used_is_not_free : Used ≢ Free
 used_is_not_free same = cc
@@ -85,15 +82,15 @@ unless_no_freer n c other states = elim (nat_eq c other)
       | false ↦ deferred_no_freer n c states
     ]
 
-pub replaced_no_freer : (n : ℕ) (was : Option Extent) (c : ℕ) (states : List State)
-    → IsNoFreer states (with_replaced n was c states)
-replaced_no_freer n None c states = λ k at. at
-replaced_no_freer n (Some o) c states = unless_no_freer n o.cluster c states
+pub other_no_freer : (n : ℕ) (stood : Option ℕ) (c : ℕ) (states : List State)
+    → IsNoFreer states (with_other n stood c states)
+other_no_freer n None c states = λ k at. at
+other_no_freer n (Some o) c states = unless_no_freer n o c states
 
-pub refused_no_freer : (n : ℕ) (was : Option Extent) (c : ℕ) (states : List State)
-    → IsNoFreer states (with_refused n was c states)
-refused_no_freer n None c states = deferred_no_freer n c states
-refused_no_freer n (Some o) c states = unless_no_freer n c o.cluster states
+pub spare_no_freer : (n : ℕ) (stood : Option ℕ) (c : ℕ) (states : List State)
+    → IsNoFreer states (with_spare n stood c states)
+spare_no_freer n None c states = deferred_no_freer n c states
+spare_no_freer n (Some o) c states = unless_no_freer n c o states
 
 -- a cluster within, once it is used
 pub now_used : (n c : ℕ) (s : State) (states new : List State) → HasState n states s c → new ≡ used_at n c states
@@ -133,6 +130,28 @@ module _ (n : ℕ) (k : FileBlock) (o : Extent) where
             (λ out. found_in k (base_clusters t) o t.extents found
             (subst (λ (x : ℕ). IsOut x (clusters_of t)) place out));
       }
+
+-- ---- clusters that tables name
+
+named_in_data : (n c : ℕ) (cs : List ℕ) → AreData n cs → (IsOut c cs → ⊥) → IsDataCluster n c
+named_in_data n c [] in_data named = absurd (named tt)
+named_in_data n c (x ∷ cs) in_data named = elim (cases_eq x c) [
+  | inl same ↦ subst (λ (y : ℕ). IsDataCluster n y) same in_data.0
+  | inr other ↦ named_in_data n c cs in_data.1 (λ out. named (other, out))
+]
+
+-- each of them is used
+pub named_state : (n : ℕ) (states : List State) (t : Typed) → AreHeld n states t → length states ≡ data_clusters n
+    → (c : ℕ) → (IsOut c (clusters_of t) → ⊥) → HasState n states Used c
+named_state n states t held size c named =
+    let one = named_in_data n c (clusters_of t) held.0 named in
+    let place : first_data_cluster n + (c - first_data_cluster n) ≡ c = omega (arith, one.from_first) in
+    record {
+      from_first = one.from_first;
+      is = named_used (first_data_cluster n) states t t held.1 (c - first_data_cluster n)
+          (omega (arith, one.from_first, one.within, size))
+          (λ out. named (subst (λ (x : ℕ). IsOut x (clusters_of t)) place out));
+    }
 
 -- ---- calls
 
@@ -185,27 +204,22 @@ module _ {D : Type 0} {d : Ghosts D} where
     worn = second.worn ∙ first.worn;
   }
 
-  -- an extent was put in the place of one with another cluster
-  pub replaced_ready : (t u : Tables D d) (k : FileBlock) (e o : Extent) → tables_now u ≡ with_extent k e (tables_now t)
-      → states_of u ≡ states_of t → u.clusters ≡ t.clusters
-      → find pair_cmp k (tables_now t).extents ≡ Some o → (o.cluster ≡ e.cluster → ⊥)
-      → HasState u.clusters (states_of u) Used o.cluster × IsOut o.cluster (clusters_of (tables_now u))
-  replaced_ready t u k e o set states clusters found differ =
-      let m = log_now t.log in
-      let used = found_used t.clusters k o t.space (typed_of m) t.held t.spaces found in
-      let out = replaced_unnamed (first_data_cluster t.clusters) t.space (typed_of m) (typed_of m) t.held.1 k e o
-      (sorted_typed extent_codec m (as_true t.contents.sorted)) found
-      (λ same. differ (sym same)) in (
-        subst (λ (p : ℕ × List State). HasState p.0 p.1 Used o.cluster) (λ i. (sym clusters i, sym states i)) used,
-        subst (λ (q : Typed). IsOut o.cluster (clusters_of q)) (sym set) out,
+  -- a cluster was put in the place of another
+  pub replaced_ready : (t u : Tables D d) (o c : ℕ)
+      → IsPutIn (clusters_of (tables_now t)) (clusters_of (tables_now u)) (Some o) c
+      → states_of u ≡ states_of t → u.clusters ≡ t.clusters → (o ≡ c → ⊥)
+      → HasState u.clusters (states_of u) Used o × IsOut o (clusters_of (tables_now u))
+  replaced_ready t u o c p states clusters differ =
+      let used = named_state t.clusters t.space (typed_of (log_now t.log)) t.held t.spaces o (put_stood p) in (
+        subst (λ (p : ℕ × List State). HasState p.0 p.1 Used o) (λ i. (sym clusters i, sym states i)) used,
+        put_gone p t.held.1.once (λ same. differ (sym same)),
       )
 
-  -- what setting an extent does to the journal, between two calls of the space alone
-  pub set_then : (a b u c : Tables D d) (k : FileBlock) (result : Result (Unit {0}) Fault)
+  -- what a setter does to the journal, between two calls of the space alone
+  pub set_then : {V : Type 0} (was : Typed → Option V) (size : ℕ) (a b u c : Tables D d)
+      (result : Result (Unit {0}) Fault)
       → tables_now b ≡ tables_now a → b.clusters ≡ a.clusters → b.log ≡ a.log → c.log ≡ u.log
-      → IsSet (find pair_cmp k (tables_now b).extents) 24 b u result
-      → IsSet (find pair_cmp k (tables_now a).extents) 24 a c result
-  set_then a b u c k result tables clusters before after set =
-      subst (λ (x : (Typed × ℕ) × (MetaLog D d × MetaLog D d)).
-      IsLogSet (find pair_cmp k x.0.0.extents) 24 x.0.1 x.1.0 x.1.1 result)
+      → IsSet (was (tables_now b)) size b u result → IsSet (was (tables_now a)) size a c result
+  set_then was size a b u c result tables clusters before after set =
+      subst (λ (x : (Typed × ℕ) × (MetaLog D d × MetaLog D d)). IsLogSet (was x.0.0) size x.0.1 x.1.0 x.1.1 result)
       (λ i. ((tables i, clusters i), (before i, sym after i))) set

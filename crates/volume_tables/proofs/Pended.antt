@@ -8,13 +8,14 @@ use Rattle.cluster_space.specs.declared.state.State.{State}
 use Rattle.cluster_space.specs.States.{free_in, released}
 use Rattle.meta_log.specs.Log.{epochs_taken, next_place, epochs_for, passes_half, checkpoint_length}
 use Rattle.meta_log.specs.declared.log.MetaLog.{MetaLog}
+use Rattle.table_records.specs.declared.records.ResultRecord.{ResultRecord}
+use Rattle.table_rules.specs.declared.records.LastResults.{LastResults}
 use Rattle.volume_inside.specs.Layout.{half_bytes}
-use Rattle.volume_tables.specs.Ends.{unstaged_in, unstaged, one_unless, staged_end, all_staged}
+use Rattle.volume_tables.specs.Ends.{unstaged_in, one_unless, same_result, all_settled, all_staged}
 use Rattle.volume_tables.specs.Log.{log_now, log_staged, log_place, log_epoch}
 use Rattle.volume_tables.specs.Pending.{Pending, due_in, place_after, worn_out, pending_of, after_commit}
 use Rattle.volume_tables.specs.Staging.{IsQuiet}
 use Rattle.volume_tables.specs.Tables.{states_of, checkpoint_of, due_of}
-use Rattle.volume_tables.specs.declared.ends.JobEnd.{JobEnd}
 use Rattle.volume_tables.specs.declared.ends.JobEnds.{JobEnds}
 use Rattle.volume_tables.specs.declared.tables.Tables.{Tables}
 use Rattle.volume_tables.proofs.Freed.{released_free}
@@ -38,13 +39,12 @@ group_behind half place bytes checkpoint some fits =
 
 -- ---- ends of jobs
 
-staged_once : (end : JobEnd) → unstaged (staged_end end) ≡ 0
-staged_once end = λ i. one_unless (eq-eqb end.last.second end.last.second refl i
-    && eq-eqb end.last.result end.last.result refl i)
+same_itself : (r : ResultRecord) → one_unless (same_result r r) ≡ 0
+same_itself r = λ i. one_unless (eq-eqb r.second r.second refl i && eq-eqb r.result r.result refl i)
 
-none_left : (ends : JobEnds) → unstaged_in (all_staged ends) ≡ 0
-none_left ends = λ i. staged_once ends.optimization i + (staged_once ends.garbage_collection i
-    + (staged_once ends.scrubbing i + staged_once ends.unoptimization i))
+pub none_left : (last : LastResults) → unstaged_in (all_settled last) ≡ 0
+none_left last = λ i. same_itself last.optimization i + (same_itself last.garbage_collection i
+    + (same_itself last.scrubbing i + same_itself last.unoptimization i))
 
 -- ---- a commit was refused as worn
 
@@ -95,7 +95,7 @@ module _ {D : Type 0} {d : Ghosts D} (t : Tables D d) (l after : MetaLog D d) (q
     epoch = (is.0 ∙ (λ j. quiet.place.epoch j + epochs_for (half j) (quiet.place.next j) (due j))) i;
     place = (is.1.0 ∙ (λ j. place_after (half j) (size j) (quiet.place.next j) (due j))) i;
     staged = is.1.1 i;
-    unstaged = (ap unstaged_in all ∙ none_left t.ends) i;
+    unstaged = (ap unstaged_in all ∙ none_left t.ends.last) i;
     free = (ap (λ (xs : List State). free_in xs) freed ∙ released_free (states_of t)) i;
     worn = fresh i;
   }
@@ -108,7 +108,7 @@ module _ {D : Type 0} {d : Ghosts D} (t : Tables D d) (l after : MetaLog D d) (q
         epoch = (ap (λ (x : MetaLog D d). log_epoch x) same ∙ quiet.place.epoch) i;
         place = (ap (λ (x : MetaLog D d). log_place x) same ∙ quiet.place.next) i;
         staged = (ap (λ (x : MetaLog D d). log_staged x) same ∙ due) i;
-        unstaged = (ap unstaged_in all ∙ none_left t.ends) i;
+        unstaged = (ap unstaged_in all ∙ none_left t.ends.last) i;
         free = free_in (states_of t);
         worn = is i;
       }) ∙ worn_now (pending_of t) fresh

@@ -17,6 +17,8 @@ use Rattle.volume_inside.specs.Inside.{cluster_bytes, inside_at}
 use Rattle.volume_inside.specs.Layout.{half_bytes, journal_at, first_data_cluster}
 use Rattle.volume_inside.specs.Lists.{IsOut}
 use Rattle.volume_inside.specs.Named.{named, clusters_of, extent_clusters, extent_ranges}
+use Rattle.volume_inside.specs.ChunkTables.{PageKey}
+use Rattle.volume_inside.specs.Pages.{page_clusters, page_length, page_ranges}
 use Rattle.volume_inside.specs.Ranges.{IsApart}
 use Rattle.volume_inside.specs.Shows.{Shows, Kept}
 use Rattle.volume_inside.specs.Typed.{Typed, FileBlock}
@@ -44,9 +46,24 @@ run_apart : (first count : ℕ) (t : Typed) → 1 ≤ first → AreOut first cou
     → IsApart (4096 * first) (4096 * count) (named t)
 run_apart first count t some out = (inl (omega (arith, some)), extents t.extents out)
   where
+    page : (e : PageKey × ℕ)
+        → (4096 * e.1 + 4096 ≤ 4096 * first) ⊎ (4096 * first + 4096 * count ≤ 4096 * e.1)
+        → (4096 * e.1 + page_length t.chunks.containers e.0 ≤ 4096 * first)
+        ⊎ (4096 * first + 4096 * count ≤ 4096 * e.1)
+    page e (inl below) = inl (omega (arith, below))
+    page e (inr behind) = inr behind
+
+    pages : (es : List (PageKey × ℕ)) → AreOut first count (page_clusters es)
+        → IsApart (4096 * first) (4096 * count) (page_ranges t.chunks.containers es)
+    pages [] out = tt
+    pages (e ∷ es) out = (
+      page e (cluster_apart e.1 first count (λ k low. (out k low).0)),
+      pages es (λ k low. (out k low).1),
+    )
+
     extents : (es : List (FileBlock × Extent)) → AreOut first count (extent_clusters es ++ base_clusters t)
         → IsApart (4096 * first) (4096 * count) (extent_ranges es ++ base_ranges t)
-    extents [] out = tt
+    extents [] out = pages t.chunks.clusters out
     extents (e ∷ es) out = (
       cluster_apart e.1.cluster first count (λ k low. (out k low).0),
       extents es (λ k low. (out k low).1),

@@ -17,7 +17,7 @@ use Rattle.table_records.specs.Changes.{IsPut}
 use Rattle.table_records.specs.Keys.{single_cmp}
 use Rattle.table_records.specs.Laws.{find_typed}
 use Rattle.table_records.specs.Orders.{some_same}
-use Rattle.table_records.specs.Settings.{settings_or_none, settings_bytes, is_settings, no_settings, AreSpellable}
+use Rattle.table_records.specs.Settings.{settings_or_empty, settings_bytes, is_settings, empty_settings, AreSpellable}
 use Rattle.table_records.specs.Tables.{settings_codec}
 use Rattle.table_records.specs.declared.settings.Settings.{Settings}
 use Rattle.table_records.proofs.SettingsBytes.{settings_back}
@@ -45,8 +45,8 @@ use Rattle.volume_tables.proofs.WellFormed.{found_well_formed, settings_join}
 pub bytes_whole : (s : Settings) → AreSpellable s → is_settings (settings_bytes s) ≡ true
 bytes_whole s fits = ap (λ (o : Option Settings). is_some o) (settings_back s fits)
 
-pub bytes_mean : (s : Settings) → AreSpellable s → settings_or_none (settings_bytes s) ≡ s
-bytes_mean s fits = ap (λ (o : Option Settings). unwrap_or o no_settings) (settings_back s fits)
+pub bytes_mean : (s : Settings) → AreSpellable s → settings_or_empty (settings_bytes s) ≡ s
+bytes_mean s fits = ap (λ (o : Option Settings). unwrap_or o empty_settings) (settings_back s fits)
 
 pub bytes_size : (s : Settings) → AreSpellable s → length (settings_bytes s) ≡ settings_size s
 bytes_size s fits = value_size (settings_bytes s) s (bytes_whole s fits) (bytes_mean s fits)
@@ -55,23 +55,23 @@ bytes_size s fits = value_size (settings_bytes s) s (bytes_whole s fits) (bytes_
 settings_grown : (m : Map) (s was : Settings) → T (is_sorted bytes_cmp m) → are_well_formed m ≡ true
     → typed settings_codec m ≡ (tt, was) ∷ []
     → (key value : List ℕ) → settings_codec.read_key key ≡ Some tt → is_settings value ≡ true
-    → settings_or_none value ≡ s
+    → settings_or_empty value ≡ s
     → checkpoint_length (put bytes_cmp key value m) + settings_size was ≡ checkpoint_length m + settings_size s
 settings_grown m s was sorted all there key value spells whole means = by (find bytes_cmp key m) refl
     (sym (find_typed settings_codec key tt spells m)
     ∙ ap (λ (es : List (Unit {0} × Settings)). find single_cmp tt es) there)
   where
     by : (o : Option (List ℕ)) → find bytes_cmp key m ≡ o
-        → option_map settings_or_none (find bytes_cmp key m) ≡ Some was
+        → option_map settings_or_empty (find bytes_cmp key m) ≡ Some was
         → checkpoint_length (put bytes_cmp key value m) + settings_size was ≡ checkpoint_length m + settings_size s
-    by None none is = absurd (let nothing : option_map settings_or_none None ≡ Some was = subst
-        (λ (o : Option (List ℕ)). option_map settings_or_none o ≡ Some was) none is in cc)
+    by None none is = absurd (let nothing : option_map settings_or_empty None ≡ Some was = subst
+        (λ (o : Option (List ℕ)). option_map settings_or_empty o ≡ Some was) none is in cc)
     by (Some w) found is =
-        let same : Some (settings_or_none w) ≡ Some was = subst
-        (λ (o : Option (List ℕ)). option_map settings_or_none o ≡ Some was) found is in
+        let same : Some (settings_or_empty w) ≡ Some was = subst
+        (λ (o : Option (List ℕ)). option_map settings_or_empty o ≡ Some was) found is in
         let pair = own_pair settings_codec settings_are_table key w (found_well_formed key w m all found) (settings_codec.numbered key tt spells) in
         let old_size = value_size w was (second_is (is_some (settings_codec.read_key key)) (is_settings w) pair)
-        (some_same (settings_or_none w) was same) in
+        (some_same (settings_or_empty w) was same) in
         let new_size = value_size value s whole means in
         let count = length_put_present key value w m sorted found in
         let bytes = bytes_in_put_present key value w m sorted found in

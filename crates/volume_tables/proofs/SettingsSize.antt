@@ -9,7 +9,7 @@ use Rattle.table_records.specs.Orders.{some_same}
 use Rattle.table_records.specs.Texts.{list_bytes}
 use Rattle.table_records.specs.Settings.{Read, flag_in, with_text, first_size, is_cut, texts_in, counted_in}
 use Rattle.table_records.specs.Settings.{nothing_behind, last_in, with_types, types_behind, lists_in, settings_of}
-use Rattle.table_records.specs.Settings.{settings_in, settings_or_none, is_settings, no_settings}
+use Rattle.table_records.specs.Settings.{settings_in, settings_or_empty, is_settings, empty_settings}
 use Rattle.table_records.proofs.TextLists.{uncut}
 use Rattle.volume_tables.specs.Sizes.{settings_size}
 
@@ -126,11 +126,11 @@ settings_sized b s is = by (nat_lt (length b) 14) refl is
     by false e f = parts (ltb-false (length b) 14 e) (flag_in (get_or b 0 0)) (flag_in (get_or b 1 0))
         (lists_in (drop 14 b)) refl f
 
-pub value_size : (value : List ℕ) (s : Settings) → is_settings value ≡ true → settings_or_none value ≡ s
+pub value_size : (value : List ℕ) (s : Settings) → is_settings value ≡ true → settings_or_empty value ≡ s
     → length value ≡ settings_size s
 value_size value s whole means = by (settings_in value) refl whole means
   where
-    by : (o : Option Settings) → settings_in value ≡ o → is_some o ≡ true → unwrap_or o no_settings ≡ s
+    by : (o : Option Settings) → settings_in value ≡ o → is_some o ≡ true → unwrap_or o empty_settings ≡ s
         → length value ≡ settings_size s
     by None e p q = absurd (cc)
     by (Some r) e p q = subst (λ (t : Settings). length value ≡ settings_size t) q (settings_sized value r e)

@@ -4,20 +4,32 @@ use Rattle.std.specs.Prelude.{IfSome}
 use Rattle.std.specs.Option.{option_map}
 use Rattle.std.proofs.Common.{Bor, ap, arith, length-take, length-drop}
 use Rattle.byteorder.specs.Endian.{big_bytes}
-use Rattle.table_records.specs.Keys.{number_in, pair_in, both, nothing_in, kind_in, all_in}
+use Rattle.byteorder.specs.Numbers.{length-bytes_high_first}
+use Rattle.table_records.specs.Keys.{number_in, pair_in, number_key, pair_key, both, nothing_in, kind_in, all_in}
 use Rattle.table_records.specs.Orders.{behind_means, number_means, some_same}
 use Rattle.table_records.specs.Codecs.{Codec}
 use Rattle.table_records.specs.Changes.{EndsRange}
 use Rattle.table_records.specs.Tables.{name_codec, file_codec, extent_codec, volume_codec, settings_codec, result_codec}
+use Rattle.table_records.specs.Tables.{row_codec, place_codec, container_codec, cluster_codec}
 use Rattle.table_records.specs.declared.jobs.JobKind.{JobKind}
 
-pub file_key : (b : List ℕ) (k : ℕ) → file_codec.read_key b ≡ Some k → length b ≡ 9
-file_key b k is =
-    let from = behind_means 3 (number_in 8) b k is in
+-- of a table of this number, whose keys are numbers of eight bytes
+number_size : (number : ℕ) (b : List ℕ) (k : ℕ) → number_key number 8 b ≡ Some k → length b ≡ 9
+number_size number b k is =
+    let from = behind_means number (number_in 8) b k is in
     let rest : length (big_bytes 8 k) ≡ length from.0 = ap (λ (l : List ℕ). length l)
     (number_means 8 from.0 k from.2).1 in
-    let whole : length b ≡ length (3 ∷ from.0) = ap (λ (l : List ℕ). length l) from.1 in
+    let whole : length b ≡ length (number ∷ from.0) = ap (λ (l : List ℕ). length l) from.1 in
     omega (arith, rest, whole)
+
+pub file_key : (b : List ℕ) (k : ℕ) → file_codec.read_key b ≡ Some k → length b ≡ 9
+file_key b k is = number_size 3 b k is
+
+pub row_key : (b : List ℕ) (k : ℕ) → row_codec.read_key b ≡ Some k → length b ≡ 9
+row_key b k is = number_size 5 b k is
+
+pub container_key : (b : List ℕ) (k : ℕ) → container_codec.read_key b ≡ Some k → length b ≡ 9
+container_key b k is = number_size 7 b k is
 
 pub name_key : (b k : List ℕ) → name_codec.read_key b ≡ Some k → length b ≡ length k + 1
 name_key b k is =
@@ -27,24 +39,41 @@ name_key b k is =
     let whole : length b ≡ length (2 ∷ from.0) = ap (λ (l : List ℕ). length l) from.1 in
     omega (arith, rest, whole)
 
-pub extent_key : (b : List ℕ) (k : ℕ × ℕ) → extent_codec.read_key b ≡ Some k → length b ≡ 13
-extent_key b k is =
-    let from = behind_means 4 (pair_in 8 4) b k is in
-    let rest = pair_length from.0 k from.2 in
-    let whole : length b ≡ length (4 ∷ from.0) = ap (λ (l : List ℕ). length l) from.1 in
+-- of a table of this number, whose keys are two numbers of so many bytes
+pair_size : (number m n : ℕ) (b : List ℕ) (k : ℕ × ℕ) → pair_key number m n b ≡ Some k → length b ≡ 1 + (m + n)
+pair_size number m n b k is =
+    let from = behind_means number (pair_in m n) b k is in
+    let rest = by from.0 (number_in m (take m from.0)) (number_in n (drop m from.0)) refl refl from.2 in
+    let whole : length b ≡ length (number ∷ from.0) = ap (λ (l : List ℕ). length l) from.1 in
     omega (arith, rest, whole)
   where
-    by : (b : List ℕ) (k : ℕ × ℕ) (o p : Option ℕ) → number_in 8 (take 8 b) ≡ o → number_in 4 (drop 8 b) ≡ p
-        → both o p ≡ Some k → length b ≡ 12
-    by b k None p x y is = absurd (cc)
-    by b k (Some m) None x y is = absurd (cc)
-    by b k (Some m) (Some n) x y is =
-        let low : 8 ≡ length (take 8 b) = ap (λ (l : List ℕ). length l) (number_means 8 (take 8 b) m x).1 in
-        let high : 4 ≡ length (drop 8 b) = ap (λ (l : List ℕ). length l) (number_means 4 (drop 8 b) n y).1 in
-        omega (arith, low, high, length-take 8 b, length-drop 8 b)
+    by : (b : List ℕ) (o p : Option ℕ) → number_in m (take m b) ≡ o → number_in n (drop m b) ≡ p → both o p ≡ Some k
+        → length b ≡ m + n
+    by b None p x y is = absurd (cc)
+    by b (Some i) None x y is = absurd (cc)
+    by b (Some i) (Some j) x y is =
+        let low : length (big_bytes m i) ≡ length (take m b) = ap (λ (l : List ℕ). length l)
+        (number_means m (take m b) i x).1 in
+        let high : length (big_bytes n j) ≡ length (drop m b) = ap (λ (l : List ℕ). length l)
+        (number_means n (drop m b) j y).1 in
+        omega (
+          arith,
+          low,
+          high,
+          length-bytes_high_first m i,
+          length-bytes_high_first n j,
+          length-take m b,
+          length-drop m b,
+        )
 
-    pair_length : (b : List ℕ) (k : ℕ × ℕ) → pair_in 8 4 b ≡ Some k → length b ≡ 12
-    pair_length b k is = by b k (number_in 8 (take 8 b)) (number_in 4 (drop 8 b)) refl refl is
+pub extent_key : (b : List ℕ) (k : ℕ × ℕ) → extent_codec.read_key b ≡ Some k → length b ≡ 13
+extent_key b k is = pair_size 4 8 4 b k is
+
+pub place_key : (b : List ℕ) (k : ℕ × ℕ) → place_codec.read_key b ≡ Some k → length b ≡ 10
+place_key b k is = pair_size 6 8 1 b k is
+
+pub cluster_key : (b : List ℕ) (k : ℕ × ℕ) → cluster_codec.read_key b ≡ Some k → length b ≡ 13
+cluster_key b k is = pair_size 8 8 4 b k is
 
 pub result_key : (b : List ℕ) (k : JobKind) → result_codec.read_key b ≡ Some k → length b ≡ 2
 result_key b k is =

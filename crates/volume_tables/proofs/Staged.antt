@@ -5,7 +5,7 @@ use Rattle.plain_volume.specs.declared.call.Fault.{Fault}
 use Rattle.plain_volume.specs.declared.call.Fault.TheVariants as fault
 use Rattle.meta_log.specs.declared.fault.MetaFault.{MetaFault}
 use Rattle.meta_log.specs.declared.fault.MetaFault.TheVariants.{GroupFull, TableFull, Worn, Damaged, Failed, Memory}
-use Rattle.volume_tables.specs.Faults.{answer_of}
+use Rattle.volume_tables.specs.Faults.{IsHandedOn, answer_of}
 
 -- a range that fits is dropped
 pub drop_fits : {n : ℕ} (r : Result (Unit {0}) MetaFault) → (IsErrOf r GroupFull ↔ (65536 < n))
@@ -14,6 +14,41 @@ drop_fits (Ok u) full refused fits = refl
 drop_fits (Err e) full refused fits = absurd (let past = full.0 refused in omega (arith, past, fits))
 
 -- ---- answers that are handed on
+
+-- a put that fits the group
+pub put_handed : {n : ℕ} (r : Result (Unit {0}) MetaFault) → (IsErrOf r GroupFull ↔ (65536 < n)) → n ≤ 65536
+    → OnErr r (IsErrOf r GroupFull ⊎ (IsErrOf r TableFull ⊎ IsErrOf r Memory)) → IsHandedOn r
+put_handed (Ok u) full fits refused = tt
+put_handed (Err GroupFull) full fits refused = absurd (let past = full.0 refl in omega (arith, past, fits))
+put_handed (Err TableFull) full fits refused = tt
+put_handed (Err Worn) full fits refused = tt
+put_handed (Err (Damaged h)) full fits (inl clash) = absurd (cc)
+put_handed (Err (Damaged h)) full fits (inr (inl clash)) = absurd (cc)
+put_handed (Err (Damaged h)) full fits (inr (inr clash)) = absurd (cc)
+put_handed (Err Failed) full fits refused = tt
+put_handed (Err Memory) full fits refused = tt
+
+-- a commit
+pub commit_handed : (r : Result (Unit {0}) MetaFault) → OnErr r (IsErrOf r Worn ⊎ IsErrOf r Failed) → IsHandedOn r
+commit_handed (Ok u) refused = tt
+commit_handed (Err GroupFull) (inl clash) = absurd (cc)
+commit_handed (Err GroupFull) (inr clash) = absurd (cc)
+commit_handed (Err TableFull) refused = tt
+commit_handed (Err Worn) refused = tt
+commit_handed (Err (Damaged h)) (inl clash) = absurd (cc)
+commit_handed (Err (Damaged h)) (inr clash) = absurd (cc)
+commit_handed (Err Failed) refused = tt
+commit_handed (Err Memory) refused = tt
+
+-- bytes that are read or written
+pub data_handed : (P : Type 0) (r : Result (Unit {0}) MetaFault) → OnErr r (IsErrOf r Failed × P) → IsHandedOn r
+data_handed P (Ok u) failed = tt
+data_handed P (Err GroupFull) failed = absurd (let clash = failed.0 in cc)
+data_handed P (Err TableFull) failed = tt
+data_handed P (Err Worn) failed = tt
+data_handed P (Err (Damaged h)) failed = absurd (let clash = failed.0 in cc)
+data_handed P (Err Failed) failed = tt
+data_handed P (Err Memory) failed = tt
 
 pub answer_ok : (P : Type 0) (r : Result (Unit {0}) MetaFault) → OnOk r P → OnOk (answer_of r) P
 answer_ok P (Ok u) p = p

@@ -1,18 +1,13 @@
 -- Where the journal of the tables goes on, as the images tell it, and what a commit spends.
-use Rattle.std.specs.Prelude.{◌≡◌, ◌&&◌, ℕ, Bool, true, List, Ok, refl}
-use Rattle.std.proofs.Common.{sym, ◌∙◌, ap, arith}
-use Rattle.std.proofs.lemmas.Bool.{eq-eqb}
+use Rattle.std.specs.Prelude.{◌≡◌, ℕ, List, Ok}
+use Rattle.std.proofs.Common.{sym, ◌∙◌}
 use Rattle.vdisk.specs.declared.disk.Disk.{Ghosts}
 use Rattle.meta_log.specs.Log as journal
 use Rattle.meta_log.specs.Meta.{meta_of, place_in, epoch_in}
 use Rattle.meta_log.specs.Ready.{GoesOnFrom}
 use Rattle.meta_log.proofs.Lives.{image_goes_on, stands_goes_on, image_spells, stands_spells}
-use Rattle.table_records.specs.declared.records.ResultRecord.{ResultRecord}
-use Rattle.table_rules.specs.declared.records.LastResults.{LastResults}
 use Rattle.volume_inside.specs.Typed.{Typed}
-use Rattle.volume_tables.specs.Ends.{same_result, one_unless, unstaged, unstaged_in}
 use Rattle.volume_tables.specs.Log.{log_state, log_place, log_epoch}
-use Rattle.volume_tables.specs.Mount.{settled, ends_from}
 use Rattle.volume_tables.specs.Mounted.{AreTablesOf}
 use Rattle.volume_tables.specs.Tables.{disk_of, IsToldBy, IsTables}
 use Rattle.volume_tables.specs.declared.tables.Tables.{Tables}
@@ -50,20 +45,3 @@ module _ {D : Type 0} {d : Ghosts D} (t : Tables D d) where
       → AreTablesOf t.clusters c stored
   held_by_crash stored is c left =
       held stored is c (stands_spells (journal.layout_of t.log) (log_state t.log) is.map is.log.stands c left)
-
--- ---- no end of a job that was read is left to be staged
-
-result_itself : (r : ResultRecord) → same_result r r ≡ true
-result_itself r = λ i. eq-eqb r.second r.second refl i && eq-eqb r.result r.result refl i
-
-settled_itself : (r : ResultRecord) → unstaged (settled r) ≡ 0
-settled_itself r = ap (λ (b : Bool). one_unless b) (result_itself r)
-
-pub none_unstaged : (r : LastResults) → unstaged_in (ends_from r) ≡ 0
-none_unstaged r = omega (
-  arith,
-  settled_itself r.optimization,
-  settled_itself r.garbage_collection,
-  settled_itself r.scrubbing,
-  settled_itself r.unoptimization,
-)

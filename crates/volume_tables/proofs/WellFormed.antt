@@ -15,8 +15,10 @@ use Rattle.table_records.specs.Laws.{find_typed}
 use Rattle.table_records.specs.WellFormed.{IsTable}
 pub use Rattle.table_records.proofs.Belongs.{apart, or_right}
 use Rattle.table_records.proofs.Belongs.{own_pair, pair_joins, volume_is_table, name_is_table, file_is_table, extent_is_table}
+use Rattle.table_records.proofs.Belongs.{row_is_table, place_is_table, container_is_table, cluster_is_table}
 use Rattle.table_records.proofs.Belongs.{settings_are_table, result_is_table}
 use Rattle.table_records.specs.Tables.{volume_codec, name_codec, file_codec, extent_codec, settings_codec, result_codec}
+use Rattle.table_records.specs.Tables.{row_codec, place_codec, container_codec, cluster_codec}
 use Rattle.volume_tables.specs.Spelled.{is_pair_of, is_well_formed, are_well_formed}
 use Rattle.meta_log.specs.Log.{checkpoint_length}
 use Rattle.volume_tables.specs.Tables.{new_bytes}
@@ -45,6 +47,18 @@ files_table = entry_table file_codec 24 file_is_table (λ value is. eqb-true (le
 
 pub extents_table : IsEntryTable extent_codec 6
 extents_table = entry_table extent_codec 6 extent_is_table (λ value is. eqb-true (length value) 6 is)
+
+pub rows_table : IsEntryTable row_codec 50
+rows_table = entry_table row_codec 50 row_is_table (λ value is. eqb-true (length value) 50 is)
+
+pub places_table : IsEntryTable place_codec 12
+places_table = entry_table place_codec 12 place_is_table (λ value is. eqb-true (length value) 12 is)
+
+pub containers_table : IsEntryTable container_codec 5
+containers_table = entry_table container_codec 5 container_is_table (λ value is. eqb-true (length value) 5 is)
+
+pub clusters_table : IsEntryTable cluster_codec 4
+clusters_table = entry_table cluster_codec 4 cluster_is_table (λ value is. eqb-true (length value) 4 is)
 
 pub results_table : IsEntryTable result_codec 9
 results_table = entry_table result_codec 9 result_is_table (λ value is. eqb-true (length value) 9 is)

@@ -3,14 +3,16 @@ use Rattle.std.specs.Prelude.{◌≡◌, ◌≤◌, ◌+◌, ◌-◌, ◌⊎◌,
 use denote.Struct.Props as logic
 use mathlib.Core.HLevel.{Π_prop, ×_prop, Unit-prop}
 use Rattle.std.specs.FinMap.{find}
+use Rattle.std.specs.Option.{option_map}
 use Rattle.cluster_space.specs.declared.state.State.{State}
 use Rattle.cluster_space.specs.declared.state.State.TheVariants.{Used, Deferred}
 use Rattle.cluster_space.specs.States.{IsIn}
 use Rattle.table_records.specs.Keys.{pair_cmp}
 use Rattle.table_records.specs.declared.records.Extent.{Extent}
 use Rattle.volume_inside.specs.Layout.{first_data_cluster, IsDataCluster, AreData}
+use Rattle.volume_inside.specs.ChunkTables.{PageKey}
 use Rattle.volume_inside.specs.Typed.{Typed, FileBlock}
-use Rattle.volume_inside.specs.Named.{clusters_of}
+use Rattle.volume_inside.specs.Named.{clusters_of, extent_clusters}
 use Rattle.volume_inside.specs.Lists.{IsOut, IsOnce}
 use Rattle.volume_inside.specs.Space.{IsSpaced}
 
@@ -34,24 +36,43 @@ deferred_at n c states = slice_set states (c - first_data_cluster n) Deferred
 abbrev pub deferred_unless : ℕ → ℕ → ℕ → List State → List State
 deferred_unless n c other states = if nat_eq c other then states else deferred_at n c states
 
--- once another cluster stands in the place of an extent's, if there was one
+-- once another cluster stands in the place of this one, if there was one
+abbrev pub with_other : ℕ → Option ℕ → ℕ → List State → List State
+with_other n None c states = states
+with_other n (Some o) c states = deferred_unless n o c states
+
+-- once a cluster was refused a key, which named this one, if any
+abbrev pub with_spare : ℕ → Option ℕ → ℕ → List State → List State
+with_spare n None c states = deferred_at n c states
+with_spare n (Some o) c states = deferred_unless n c o states
+
+-- the cluster of an extent, if there is one
+abbrev pub cluster_at : Option Extent → Option ℕ
+cluster_at was = option_map (λ e. e.cluster) was
+
+-- both of an extent
 abbrev pub with_replaced : ℕ → Option Extent → ℕ → List State → List State
-with_replaced n None c states = states
-with_replaced n (Some o) c states = deferred_unless n o.cluster c states
+with_replaced n was c states = with_other n (cluster_at was) c states
 
--- once a cluster was refused a key, which named this extent, if one
 abbrev pub with_refused : ℕ → Option Extent → ℕ → List State → List State
-with_refused n None c states = deferred_at n c states
-with_refused n (Some o) c states = deferred_unless n c o.cluster states
+with_refused n was c states = with_spare n (cluster_at was) c states
 
--- once the clusters of these extents are deferred, where the first data cluster is this one
+-- once these clusters are deferred, where the first data cluster is this one
+abbrev pub each_deferred : ℕ → List ℕ → List State → List State
+each_deferred first [] states = states
+each_deferred first (c ∷ cs) states = each_deferred first cs (slice_set states (c - first) Deferred)
+
+-- and those of extents
 abbrev pub all_deferred : ℕ → List (FileBlock × Extent) → List State → List State
-all_deferred first [] states = states
-all_deferred first (e ∷ es) states = all_deferred first es (slice_set states (e.1.cluster - first) Deferred)
+all_deferred first es states = each_deferred first (extent_clusters es) states
 
 -- the key names the cluster, or nobody does
 abbrev pub IsNoOthers : FileBlock → ℕ → Typed → Type 0
 IsNoOthers k c t = ((o : Extent) × (find pair_cmp k t.extents ≡ Some o) × (o.cluster ≡ c)) ⊎ IsOut c (clusters_of t)
+
+-- the same of the key of a page
+abbrev pub IsNoOtherPage : PageKey → ℕ → Typed → Type 0
+IsNoOtherPage k c t = (find pair_cmp k t.chunks.clusters ≡ Some c) ⊎ IsOut c (clusters_of t)
 
 -- ---- these facts have one proof at most
 

@@ -5,7 +5,18 @@ use Rattle.plain_volume.specs.declared.call.Fault.TheVariants as fault
 use Rattle.meta_log.specs.declared.fault.MetaFault.{MetaFault}
 use Rattle.meta_log.specs.declared.fault.MetaFault.TheVariants.{GroupFull, TableFull, Worn, Damaged, Failed, Memory}
 
--- Room for the records was ensured, and the journal is open: the others do not come.
+-- What comes where room for the records was ensured and the journal is open: Ok, or any refusal but that the group is
+-- full and that a half is damaged.
+abbrev pub IsHandedOn : Result (Unit {0}) MetaFault → Type 0
+IsHandedOn (Ok done) = Unit {0}
+IsHandedOn (Err GroupFull) = ⊥
+IsHandedOn (Err TableFull) = Unit {0}
+IsHandedOn (Err Worn) = Unit {0}
+IsHandedOn (Err (Damaged half)) = ⊥
+IsHandedOn (Err Failed) = Unit {0}
+IsHandedOn (Err Memory) = Unit {0}
+
+-- of those that do not come, anything
 abbrev pub fault_of : MetaFault → Fault
 fault_of GroupFull = fault.Memory
 fault_of TableFull = fault.TableFull

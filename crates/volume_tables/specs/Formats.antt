@@ -21,7 +21,7 @@ with_results m =
     (put bytes_cmp (10 ∷ 2 ∷ []) result_value (put bytes_cmp (10 ∷ 1 ∷ []) result_value m)))
 
 -- the journal of an image spells the tables of a fresh volume, and all else is as it was
-pub record IsCommitted (at half : ℕ) (old c : List ℕ) : Type 0 where
+pub record SpellsFresh (at half : ℕ) (old c : List ℕ) : Type 0 where
   pub spells : meta_of at half c ≡ Ok fresh_map
   pub change : ChangedWithin at (2 * half) old c
 

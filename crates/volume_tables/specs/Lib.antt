@@ -11,6 +11,7 @@ pub mod Staging
 pub mod Waits
 pub mod Tables
 pub mod Setters
+pub mod Moves
 pub mod Results
 pub mod Mount
 pub mod Mounted
@@ -18,7 +19,9 @@ pub mod Formats
 pub mod Counts
 pub mod Sound
 pub mod Pending
+pub mod Commits
 pub mod Wants
+pub mod Rooms
 pub mod Reads
 pub mod Stages
 pub mod Spending

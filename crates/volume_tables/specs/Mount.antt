@@ -5,10 +5,6 @@ use Rattle.vdisk.specs.Causes.{Rose}
 use Rattle.meta_log.specs.Meta.{meta_of}
 use Rattle.meta_log.specs.declared.fault.MetaFault.{MetaFault}
 use Rattle.meta_log.specs.declared.fault.MetaFault.TheVariants as log
-use Rattle.table_records.specs.declared.records.ResultRecord.{ResultRecord}
-use Rattle.table_rules.specs.declared.records.LastResults.{LastResults}
-use Rattle.volume_tables.specs.declared.ends.JobEnd.{JobEnd}
-use Rattle.volume_tables.specs.declared.ends.JobEnds.{JobEnds}
 use Rattle.byte_map.specs.Words.{Map}
 use Rattle.volume_inside.specs.Rules.{IsLeastBroken}
 use Rattle.volume_inside.specs.InsideOf.{Reading, InsideOf, HasVersion}
@@ -54,18 +50,6 @@ IsLogFault n old new (VersionUnknown found) = ⊥
 IsLogFault n old new (BadTable rule) = ⊥
 IsLogFault n old new Failed = Rose old.faults new.faults
 IsLogFault n old new Memory = Unit {0}
-
--- a result that is staged as it is
-abbrev pub settled : ResultRecord → JobEnd
-settled last = record { last = last; staged = last }
-
-abbrev pub ends_from : LastResults → JobEnds
-ends_from r = record {
-  optimization = settled r.optimization;
-  garbage_collection = settled r.garbage_collection;
-  scrubbing = settled r.scrubbing;
-  unoptimization = settled r.unoptimization;
-}
 
 -- why the tables of an image of n clusters are not opened, where its superblock and its size are right
 abbrev pub IsInnerFault : ℕ → DiskState → DiskState → MountFault → Type 0

@@ -6,10 +6,14 @@ use Rattle.cluster_space.specs.declared.state.State.{State}
 use Rattle.plain_volume.specs.declared.call.Fault.{Fault}
 use Rattle.table_records.specs.Keys.{pair_cmp}
 use Rattle.table_records.specs.declared.records.Extent.{Extent}
-use Rattle.volume_inside.specs.Changes.{with_extent}
+use Rattle.table_records.specs.declared.settings.Settings.{Settings}
+use Rattle.volume_inside.specs.Changes.{with_extent, with_cluster, with_settings}
+use Rattle.volume_inside.specs.ChunkTables.{PageKey}
 use Rattle.volume_inside.specs.Typed.{Typed, FileBlock}
-use Rattle.volume_tables.specs.Clusters.{used_at, with_replaced, with_refused}
+use Rattle.volume_tables.specs.Clusters.{used_at, cluster_at, with_other, with_spare}
+use Rattle.volume_tables.specs.Sizes.{settings_size, settings_size_of}
 use Rattle.volume_tables.specs.Tables.{tables_now, disk_of, states_of, staged_of, checkpoint_of, stopped, clusters_in, Leaves, IsSet}
+use Rattle.volume_tables.specs.Tables.{IsResized}
 use Rattle.volume_tables.specs.declared.tables.Tables.{Tables}
 
 module _ {D : Type 0} {d : Ghosts D} where
@@ -23,20 +27,39 @@ module _ {D : Type 0} {d : Ghosts D} where
     pub leaves : Leaves old new
     pub states : states_of new ≡ states_of old
 
-  -- WHAT SETTING AN EXTENT DOES, which also moves clusters: that of the extent is used, and what stood at the key
-  -- before, or was refused it, is deferred.
-  pub record IsExtentSet (key : FileBlock) (extent : Extent) (old new : Tables D d)
-      (result : Result (Unit {0}) Fault) : Type 0 where
-    pub ok : OnOk result (tables_now new ≡ with_extent key extent (tables_now old))
+  -- WHAT NAMING A CLUSTER AT A KEY DOES, which also moves clusters: `was` stood at the key, over the cluster `stood`,
+  -- and the states are these once the new one is used. After Ok another one that stood at the key is deferred; one that
+  -- was refused the key is deferred, unless the key names it.
+  pub record IsClusterSet {V : Type 0} (change : Typed → Typed) (was : Option V) (stood : Option ℕ) (size cluster : ℕ)
+      (taken : List State) (old new : Tables D d) (result : Result (Unit {0}) Fault) : Type 0 where
+    pub ok : OnOk result (tables_now new ≡ change (tables_now old))
     pub err : OnErr result (tables_now new ≡ tables_now old)
-    pub set : IsSet (find pair_cmp key (tables_now old).extents) 24 old new result
+    pub set : IsSet was size old new result
     pub leaves : Leaves old new
-    pub replaced : OnOk result (states_of new ≡
-        with_replaced (clusters_in old) (find pair_cmp key (tables_now old).extents) extent.cluster
-        (used_at (clusters_in old) extent.cluster (states_of old)))
-    pub refused : OnErr result (states_of new ≡
-        with_refused (clusters_in old) (find pair_cmp key (tables_now old).extents) extent.cluster
-        (used_at (clusters_in old) extent.cluster (states_of old)))
+    pub replaced : OnOk result (states_of new ≡ with_other (clusters_in old) stood cluster taken)
+    pub refused : OnErr result (states_of new ≡ with_spare (clusters_in old) stood cluster taken)
+
+  -- WHAT SETTING AN EXTENT DOES: its cluster is used, and may have been deferred before
+  abbrev pub IsExtentSet : FileBlock → Extent → Tables D d → Tables D d → Result (Unit {0}) Fault → Type 0
+  IsExtentSet key extent old new result =
+      IsClusterSet (with_extent key extent) (find pair_cmp key (tables_now old).extents)
+      (cluster_at (find pair_cmp key (tables_now old).extents)) 24 extent.cluster
+      (used_at (clusters_in old) extent.cluster (states_of old)) old new result
+
+  -- WHAT SETTING A PAGE OF A CONTAINER DOES, over a cluster that is used
+  abbrev pub IsPageSet : PageKey → ℕ → Tables D d → Tables D d → Result (Unit {0}) Fault → Type 0
+  IsPageSet key cluster old new result =
+      IsClusterSet (with_cluster key cluster) (find pair_cmp key (tables_now old).chunks.clusters)
+      (find pair_cmp key (tables_now old).chunks.clusters) 22 cluster (states_of old) old new result
+
+  -- WHAT SETTING THE SETTINGS DOES, whose value need not be as long as that before.
+  pub record AreSettingsSet (settings : Settings) (old new : Tables D d) (result : Result (Unit {0}) Fault)
+      : Type 0 where
+    pub ok : OnOk result (tables_now new ≡ with_settings settings (tables_now old))
+    pub err : OnErr result (tables_now new ≡ tables_now old)
+    pub set : IsResized (settings_size_of (tables_now old)) (settings_size settings) old.clusters old.log new.log result
+    pub leaves : Leaves old new
+    pub states : states_of new ≡ states_of old
 
   -- WHAT A DROPPER DOES, which takes no memory: the tables are changed so, a record of so many bytes is staged, and
   -- the clusters have these states.

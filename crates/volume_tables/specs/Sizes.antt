@@ -2,6 +2,7 @@
 use Rattle.std.specs.Prelude.{◌+◌, ◌*◌, ℕ, List, [], ◌∷◌, length}
 use Rattle.table_records.specs.Texts.{list_bytes}
 use Rattle.table_records.specs.declared.settings.Settings.{Settings}
+use Rattle.volume_inside.specs.ChunkTables.{ChunkTables}
 use Rattle.volume_inside.specs.Typed.{Typed}
 
 -- two flags, three numbers of four bytes, and two lists behind their counts
@@ -28,11 +29,19 @@ abbrev pub setting_bytes : List (Unit {0} × Settings) → ℕ
 setting_bytes [] = 0
 setting_bytes (e ∷ es) = 6 + (settings_size e.1 + setting_bytes es)
 
+-- 64 bytes of each row, 27 of each place of a copy, 19 of each container and 22 of each cluster of one
+abbrev pub chunk_bytes : ChunkTables → ℕ
+chunk_bytes t = 64 * length t.rows + (27 * length t.places + (19 * length t.containers + 22 * length t.clusters))
+
+abbrev pub chunks_in : ChunkTables → ℕ
+chunks_in t = length t.rows + (length t.places + (length t.containers + length t.clusters))
+
 -- the bytes of a checkpoint of tables, behind a head of 45 bytes
 abbrev pub tables_bytes : Typed → ℕ
 tables_bytes t = 45 + (18 * length t.volume + (name_bytes t.names + (38 * length t.files + (24 * length t.extents
-    + (setting_bytes t.settings + 16 * length t.results)))))
+    + (chunk_bytes t.chunks + (setting_bytes t.settings + 16 * length t.results))))))
 
 -- how many entries there are but for names
 abbrev pub others_in : Typed → ℕ
-others_in t = length t.volume + (length t.files + (length t.extents + (length t.settings + length t.results)))
+others_in t =
+    length t.volume + (length t.files + (length t.extents + (chunks_in t.chunks + (length t.settings + length t.results))))

@@ -1,7 +1,8 @@
 -- What waits for a commit, and what becomes of it: numbers alone, and no place of a cluster.
-use Rattle.std.specs.Prelude.{◌+◌, ◌-◌, ◌*◌, ◌^◌, ◌&&◌, ◌||◌, nat_eq, nat_le, if◌then◌else◌, ℕ, Bool, false, true}
+use Rattle.std.specs.Prelude.{◌+◌, ◌-◌, ◌*◌, ◌&&◌, ◌||◌, nat_eq, nat_le, if◌then◌else◌, ℕ, Bool, false, true}
 use Rattle.meta_log.specs.Log.{passes_half, epochs_for}
 use Rattle.meta_log.specs.Meta.{last_epoch}
+use Rattle.groundwork.specs.declared.limits.TheConstants.{LAST_ID}
 
 -- What a call asks for: whether it draws an id; the bytes by which it makes a checkpoint of the tables longer, before it
 -- drops anything; the most bytes of records that it may stage; and the clusters that it writes.
@@ -13,7 +14,7 @@ pub record Needs : Type 0 where
 
 -- the last id, which is never drawn
 abbrev pub last_id : ℕ
-last_id = 2 ^ 48 - 1
+last_id = LAST_ID
 
 -- WHAT WAITS FOR A COMMIT: the epoch of the journal's live half, and where in it the next group goes; the bytes of the
 -- records that are staged, and the ends of jobs that are not yet; the clusters that are free at once; and whether a

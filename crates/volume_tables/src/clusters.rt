@@ -1,6 +1,6 @@
 //! Data clusters: they are taken, written, read and given up.
 
-ghost use Rattle.std.specs.Prelude.{◌≡◌, ◌⊎◌, ◌≤◌, ◌<◌, ◌+◌, ◌*◌, ◌-◌, ℕ, length, true, false, OnOk, OnErr, IfOk, IsErrOf};
+ghost use Rattle.std.specs.Prelude.{◌≡◌, ◌⊎◌, ◌≤◌, ◌<◌, ◌+◌, ◌*◌, ◌-◌, ℕ, length, false, OnOk, OnErr, IfOk, IsErrOf};
 ghost use Rattle.vdisk.specs.Causes.{Rose};
 ghost use Rattle.vdisk.specs.Disk.{ChangedWithin};
 ghost use Rattle.vdisk.specs.Ranges.{part};
@@ -10,7 +10,7 @@ ghost use Rattle.volume_inside.specs.Lists.{IsOut};
 ghost use Rattle.volume_inside.specs.Named.{clusters_of};
 ghost use Rattle.volume_inside.specs.Inside.{cluster_bytes, inside_at};
 ghost use Rattle.volume_inside.specs.Typed.{Typed};
-ghost use Rattle.volume_tables.specs.Clusters.{HasState, used_at, deferred_at, deferred_unless};
+ghost use Rattle.volume_tables.specs.Clusters.{HasState, used_at, deferred_at, deferred_unless, with_other, with_spare};
 ghost use Rattle.volume_tables.specs.Frames.{AreFree, NamesNoFree};
 
 use crate::fault;
@@ -18,8 +18,10 @@ use crate::tables::Tables;
 use cluster_space::{Run, State};
 use plain_volume::Fault;
 use vdisk::Disk;
+use volume_inside::CLUSTER_BYTES;
 
 impl<D: Disk> Tables<D> {
+    ghost use Rattle.volume_tables.specs.Moves.{MovesStatesTo, WritesData};
     ghost use Rattle.volume_tables.specs.Reads.{ReadsOnly};
     ghost use Rattle.volume_tables.specs.Tables.{tables_now, inside_now, states_of, staged_of, checkpoint_of, disk_of, stopped, IsTables, Leaves};
 
@@ -34,12 +36,7 @@ impl<D: Disk> Tables<D> {
     /// Makes a free cluster used.
     fn use_free(&mut self, cluster: u32)
         requires { HasState self.old.clusters (states_of self.old) State.Free cluster }
-        ensures states { states_of self.new ≡ used_at self.old.clusters cluster (states_of self.old) }
-        ensures log { self.new.log ≡ self.old.log }
-        ensures tables { tables_now self.new ≡ tables_now self.old }
-        ensures clusters { self.new.clusters ≡ self.old.clusters }
-        ensures ends { self.new.ends ≡ self.old.ends }
-        ensures worn { self.new.worn ≡ self.old.worn }
+        ensures { MovesStatesTo (used_at self.old.clusters cluster (states_of self.old)) self.old self.new }
     {
         let index = cluster - self.first_cluster();
         self.space.mark_used(index);
@@ -80,12 +77,7 @@ impl<D: Disk> Tables<D> {
     pub(crate) fn give_up(&mut self, cluster: u32)
         requires used { HasState self.old.clusters (states_of self.old) State.Used cluster }
         requires unnamed { IsOut cluster (clusters_of (tables_now self.old)) }
-        ensures states { states_of self.new ≡ deferred_at self.old.clusters cluster (states_of self.old) }
-        ensures log { self.new.log ≡ self.old.log }
-        ensures tables { tables_now self.new ≡ tables_now self.old }
-        ensures clusters { self.new.clusters ≡ self.old.clusters }
-        ensures ends { self.new.ends ≡ self.old.ends }
-        ensures worn { self.new.worn ≡ self.old.worn }
+        ensures { MovesStatesTo (deferred_at self.old.clusters cluster (states_of self.old)) self.old self.new }
     {
         let index = cluster - self.first_cluster();
         self.space.defer(index);
@@ -96,15 +88,36 @@ impl<D: Disk> Tables<D> {
         requires { (cluster ≡ other → ⊥) →
             HasState self.old.clusters (states_of self.old) State.Used cluster ×
             IsOut cluster (clusters_of (tables_now self.old)) }
-        ensures states { states_of self.new ≡ deferred_unless self.old.clusters cluster other (states_of self.old) }
-        ensures log { self.new.log ≡ self.old.log }
-        ensures tables { tables_now self.new ≡ tables_now self.old }
-        ensures clusters { self.new.clusters ≡ self.old.clusters }
-        ensures ends { self.new.ends ≡ self.old.ends }
-        ensures worn { self.new.worn ≡ self.old.worn }
+        ensures { MovesStatesTo (deferred_unless self.old.clusters cluster other (states_of self.old)) self.old self.new }
     {
         if cluster != other {
             self.give_up(cluster);
+        }
+    }
+
+    /// Gives up the cluster that stood at a key where this one now stands, if one did.
+    pub(crate) fn give_up_replaced(&mut self, stood: Option<u32>, cluster: u32)
+        requires { (o : ℕ) → stood ≡ Some o → (o ≡ cluster → ⊥) →
+            HasState self.old.clusters (states_of self.old) State.Used o ×
+            IsOut o (clusters_of (tables_now self.old)) }
+        ensures { MovesStatesTo (with_other self.old.clusters stood cluster (states_of self.old)) self.old self.new }
+    {
+        match stood {
+            None => {}
+            Some(other) => self.give_up_unless(other, cluster),
+        }
+    }
+
+    /// Gives up a cluster that was refused a key where this one stands, if one does.
+    pub(crate) fn give_up_refused(&mut self, stood: Option<u32>, cluster: u32)
+        requires { ((o : ℕ) → stood ≡ Some o → cluster ≡ o → ⊥) →
+            HasState self.old.clusters (states_of self.old) State.Used cluster ×
+            IsOut cluster (clusters_of (tables_now self.old)) }
+        ensures { MovesStatesTo (with_spare self.old.clusters stood cluster (states_of self.old)) self.old self.new }
+    {
+        match stood {
+            None => self.give_up(cluster),
+            Some(other) => self.give_up_unless(cluster, other),
         }
     }
 
@@ -112,12 +125,7 @@ impl<D: Disk> Tables<D> {
     pub(crate) fn take_back(&mut self, cluster: u32)
         requires { HasState self.old.clusters (states_of self.old) State.Used cluster ⊎
             HasState self.old.clusters (states_of self.old) State.Deferred cluster }
-        ensures states { states_of self.new ≡ used_at self.old.clusters cluster (states_of self.old) }
-        ensures log { self.new.log ≡ self.old.log }
-        ensures tables { tables_now self.new ≡ tables_now self.old }
-        ensures clusters { self.new.clusters ≡ self.old.clusters }
-        ensures ends { self.new.ends ≡ self.old.ends }
-        ensures worn { self.new.worn ≡ self.old.worn }
+        ensures { MovesStatesTo (used_at self.old.clusters cluster (states_of self.old)) self.old self.new }
     {
         let index = cluster - self.first_cluster();
         if self.space.state(index) == State::Deferred {
@@ -132,22 +140,16 @@ impl<D: Disk> Tables<D> {
         requires some { 0 < run.count }
         requires whole { length bytes.now ≡ 4096 * run.count }
         requires free { AreFree self.old.clusters (states_of self.old) run }
-        ensures now { tables_now self.new ≡ tables_now self.old }
-        ensures states { states_of self.new ≡ states_of self.old }
+        ensures writes { WritesData self.old self.new result }
         ensures written { (stored : Typed) → IsTables self.old stored → OnOk result
             (part (4096 * run.first) (4096 * run.count) (disk_of self.new).image ≡ bytes.now) }
         ensures image { ChangedWithin (4096 * run.first) (4096 * run.count) (disk_of self.old).image
             (disk_of self.new).image }
-        ensures clusters { self.new.clusters ≡ self.old.clusters }
-        ensures leaves { Leaves self.old self.new }
-        ensures numbers { (staged_of self.new ≡ staged_of self.old) × (checkpoint_of self.new ≡
-            checkpoint_of self.old) }
-        ensures runs { OnOk result (stopped self.new ≡ false) }
-        ensures stops { OnErr result (stopped self.new ≡ true) }
-        ensures failed { OnErr result (IsErrOf result Fault.Failed ×
-            Rose (disk_of self.old).faults (disk_of self.new).faults) }
     {
-        fault::of_log(self.log.write_data(4096 * run.first as u64, bytes))
+        fault::of_log(
+            self.log
+                .write_data(CLUSTER_BYTES as u64 * run.first as u64, bytes),
+        )
     }
 
     /// Writes the whole clusters at the front of some bytes into free ones, at once: as many as are found beside one
@@ -160,23 +162,15 @@ impl<D: Disk> Tables<D> {
         ensures some { IfOk result (λ run. 0 < run.count) }
         ensures fits { IfOk result (λ run. 4096 * run.count ≤ length bytes.now) }
         ensures free { IfOk result (λ run. AreFree self.old.clusters (states_of self.old) run) }
-        ensures states { states_of self.new ≡ states_of self.old }
-        ensures now { tables_now self.new ≡ tables_now self.old }
+        ensures writes { WritesData self.old self.new result }
         ensures written { (stored : Typed) → IsTables self.old stored → IfOk result (λ run. (k : ℕ) → k < run.count →
             cluster_bytes (run.first + k) (disk_of self.new).image ≡ part (4096 * k) 4096 bytes.now) }
         ensures same { inside_now self.new ≡ inside_now self.old }
         ensures frame { (t : Typed) → NamesNoFree self.old.clusters (states_of self.old) t →
             inside_at t (disk_of self.new).image ≡ inside_at t (disk_of self.old).image }
-        ensures leaves { Leaves self.old self.new }
-        ensures numbers { (staged_of self.new ≡ staged_of self.old) × (checkpoint_of self.new ≡
-            checkpoint_of self.old) }
-        ensures runs { OnOk result (stopped self.new ≡ false) }
-        ensures stops { OnErr result (stopped self.new ≡ true) }
-        ensures failed { OnErr result (IsErrOf result Fault.Failed ×
-            Rose (disk_of self.old).faults (disk_of self.new).faults) }
     {
-        let run = self.free_run((bytes.len() / 4096) as u32);
-        self.write_run(run, &bytes[..4096 * run.count as usize])?;
+        let run = self.free_run((bytes.len() / CLUSTER_BYTES as usize) as u32);
+        self.write_run(run, &bytes[..CLUSTER_BYTES as usize * run.count as usize])?;
         Ok(run)
     }
 
@@ -191,6 +185,9 @@ impl<D: Disk> Tables<D> {
         ensures failed { OnErr result (IsErrOf result Fault.Failed ×
             Rose (disk_of self.old).faults (disk_of self.new).faults) }
     {
-        fault::of_log(self.log.read_data(4096 * first as u64 + from as u64, out))
+        fault::of_log(
+            self.log
+                .read_data(CLUSTER_BYTES as u64 * first as u64 + from as u64, out),
+        )
     }
 }

@@ -1,21 +1,12 @@
-//! How the last job of each kind ended.
+//! How the last jobs ended.
 
-use table_records::ResultRecord;
+use table_rules::LastResults;
 
-/// How the last job of a kind ended.
-#[derive(Clone, Copy, Debug, PartialEq, Eq)]
-pub(crate) struct JobEnd {
-    /// Its record now.
-    pub(crate) last: ResultRecord,
-    /// The record in the journal's map, which the next commit makes the one now.
-    pub(crate) staged: ResultRecord,
-}
-
-/// How the last jobs ended, by kind.
+/// How the last jobs ended.
 #[derive(Clone, Copy, Debug, PartialEq, Eq)]
 pub(crate) struct JobEnds {
-    pub(crate) optimization: JobEnd,
-    pub(crate) garbage_collection: JobEnd,
-    pub(crate) scrubbing: JobEnd,
-    pub(crate) unoptimization: JobEnd,
+    /// Their records now.
+    pub(crate) last: LastResults,
+    /// The records in the journal's map, which the next commit makes those now.
+    pub(crate) staged: LastResults,
 }

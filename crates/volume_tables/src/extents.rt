@@ -1,6 +1,6 @@
 //! Extents, and the clusters that they name.
 
-ghost use Rattle.std.specs.Prelude.{◌≡◌, ◌⊎◌, ◌≤◌, ◌<◌, ◌+◌, not, length, Option, Some, None};
+ghost use Rattle.std.specs.Prelude.{◌≡◌, ◌⊎◌, ◌≤◌, ◌<◌, ◌+◌, not, length, Option, Some};
 ghost use Rattle.std.specs.FinMap.Entries.{find};
 ghost use Rattle.table_records.specs.Changes.{is_in_range};
 ghost use Rattle.table_records.specs.Keys.{pair_cmp};
@@ -9,19 +9,31 @@ ghost use Rattle.volume_inside.specs.Changes.{with_extent, keep_extents};
 ghost use Rattle.volume_inside.specs.Layout.{first_data_cluster};
 ghost use Rattle.volume_inside.specs.Lists.{IsOut};
 ghost use Rattle.volume_inside.specs.Named.{clusters_of};
-ghost use Rattle.volume_tables.specs.Clusters.{HasState, IsNoOthers, with_replaced, with_refused, all_deferred};
+ghost use Rattle.volume_tables.specs.Clusters.{HasState, IsNoOthers, cluster_at, all_deferred};
 ghost use Rattle.volume_tables.specs.Dropped.{end_bytes, extents_in};
 
 use crate::raw;
 use crate::raw_extents::defer_range;
+use crate::room::MOST_RECORDS;
 use crate::tables::Tables;
 use cluster_space::State;
 use plain_volume::Fault;
 use table_records::{Extent, ExtentTable};
 use vdisk::Disk;
 
+/// The cluster of an extent, if there is one.
+fn cluster_of(extent: Option<Extent>) -> Option<u32>
+    ensures { result ≡ cluster_at extent }
+{
+    match extent {
+        None => None,
+        Some(extent) => Some(extent.cluster),
+    }
+}
+
 impl<D: Disk> Tables<D> {
     ghost use Rattle.volume_tables.specs.Setters.{IsSetIn, IsExtentSet, IsDroppedIn};
+    ghost use Rattle.volume_tables.specs.Moves.{MovesStatesTo};
     ghost use Rattle.volume_tables.specs.Tables.{tables_now, states_of, staged_of, next_after};
 
     /// The extent of a block of a file: `key` is the file's id and the block's number.
@@ -50,7 +62,7 @@ impl<D: Disk> Tables<D> {
 
     /// Sets an extent over a used cluster that no other key names. The cluster that stood at the key stays used.
     fn put_extent(&mut self, key: (u64, u32), extent: Extent) -> Result<(), Fault>
-        requires room { staged_of self.old + 24 ≤ 65472 }
+        requires room { staged_of self.old + 24 ≤ MOST_RECORDS }
         requires below { extent.cluster < self.old.clusters }
         requires used { HasState self.old.clusters (states_of self.old) State.Used extent.cluster }
         requires alone { IsNoOthers key extent.cluster (tables_now self.old) }
@@ -58,42 +70,6 @@ impl<D: Disk> Tables<D> {
             self.old self.new result }
     {
         raw::put::<D, ExtentTable>(&mut self.log, key, extent)
-    }
-
-    /// Gives up the cluster that stood at a key where this one now stands.
-    fn give_up_replaced(&mut self, was: Option<Extent>, cluster: u32)
-        requires { (o : Extent) → was ≡ Some o → (o.cluster ≡ cluster → ⊥) →
-            HasState self.old.clusters (states_of self.old) State.Used o.cluster ×
-            IsOut o.cluster (clusters_of (tables_now self.old)) }
-        ensures states { states_of self.new ≡ with_replaced self.old.clusters was cluster (states_of self.old) }
-        ensures log { self.new.log ≡ self.old.log }
-        ensures tables { tables_now self.new ≡ tables_now self.old }
-        ensures clusters { self.new.clusters ≡ self.old.clusters }
-        ensures ends { self.new.ends ≡ self.old.ends }
-        ensures worn { self.new.worn ≡ self.old.worn }
-    {
-        match was {
-            None => {}
-            Some(was) => self.give_up_unless(was.cluster, cluster),
-        }
-    }
-
-    /// Gives up a cluster that was refused a key where this extent stands.
-    fn give_up_refused(&mut self, was: Option<Extent>, cluster: u32)
-        requires { ((o : Extent) → was ≡ Some o → cluster ≡ o.cluster → ⊥) →
-            HasState self.old.clusters (states_of self.old) State.Used cluster ×
-            IsOut cluster (clusters_of (tables_now self.old)) }
-        ensures states { states_of self.new ≡ with_refused self.old.clusters was cluster (states_of self.old) }
-        ensures log { self.new.log ≡ self.old.log }
-        ensures tables { tables_now self.new ≡ tables_now self.old }
-        ensures clusters { self.new.clusters ≡ self.old.clusters }
-        ensures ends { self.new.ends ≡ self.old.ends }
-        ensures worn { self.new.worn ≡ self.old.worn }
-    {
-        match was {
-            None => self.give_up(cluster),
-            Some(was) => self.give_up_unless(cluster, was.cluster),
-        }
     }
 
     /// Names a cluster as a block of a file: `key` is the file's id and the block's number. No other key names the
@@ -108,20 +84,21 @@ impl<D: Disk> Tables<D> {
         extent: Extent,
     ) -> Result<(), Fault>
         requires is { was ≡ find pair_cmp key (tables_now self.old).extents }
-        requires room { staged_of self.old + 24 ≤ 65472 }
+        requires room { staged_of self.old + 24 ≤ MOST_RECORDS }
         requires taken { HasState self.old.clusters (states_of self.old) State.Used extent.cluster ⊎
             HasState self.old.clusters (states_of self.old) State.Deferred extent.cluster }
         requires alone { IsNoOthers key extent.cluster (tables_now self.old) }
         ensures { IsExtentSet key extent self.old self.new result }
     {
+        let stood = cluster_of(was);
         self.take_back(extent.cluster);
         match self.put_extent(key, extent) {
             Ok(()) => {
-                self.give_up_replaced(was, extent.cluster);
+                self.give_up_replaced(stood, extent.cluster);
                 Ok(())
             }
             Err(fault) => {
-                self.give_up_refused(was, extent.cluster);
+                self.give_up_refused(stood, extent.cluster);
                 Err(fault)
             }
         }
@@ -130,7 +107,7 @@ impl<D: Disk> Tables<D> {
     /// Drops the extents from a key on, all of them or those below another. Their clusters are deferred. Room for 31
     /// bytes of records was ensured.
     pub fn drop_extent(&mut self, from: (u64, u32), to: Option<(u64, u32)>)
-        requires { staged_of self.old + 31 ≤ 65472 }
+        requires { staged_of self.old + 31 ≤ MOST_RECORDS }
         ensures { IsDroppedIn (keep_extents (λ key. not (is_in_range pair_cmp from to key)))
             (5 + 13 + end_bytes (λ key. 13) to) (all_deferred (first_data_cluster self.old.clusters)
             (extents_in from to (tables_now self.old).extents) (states_of self.old)) self.old self.new }

@@ -1,22 +1,24 @@
 //! What refusals of the journal are for the tables.
 
 ghost use Rattle.std.specs.Prelude.{◌≡◌, ◌↔◌, IsTrue};
-ghost use Rattle.volume_tables.specs.Faults.{answer_of};
+ghost use Rattle.volume_tables.specs.Faults.{IsHandedOn, answer_of};
 
 use meta_log::MetaFault;
 use plain_volume::Fault;
 
-/// The answer of the tables where the journal gave this one. That the staged records are too many and that a half is
-/// damaged do not come here.
+/// The answer of the tables where the journal gave this one.
 pub(crate) fn of_log(answer: Result<(), MetaFault>) -> Result<(), Fault>
+    requires { IsHandedOn answer }
     ensures { result ≡ answer_of answer }
 {
     match answer {
         Ok(()) => Ok(()),
         Err(MetaFault::TableFull) => Err(Fault::TableFull),
         Err(MetaFault::Worn) => Err(Fault::Worn),
-        Err(MetaFault::Failed | MetaFault::Damaged(_)) => Err(Fault::Failed),
-        Err(MetaFault::Memory | MetaFault::GroupFull) => Err(Fault::Memory),
+        Err(MetaFault::Failed) => Err(Fault::Failed),
+        Err(MetaFault::Memory) => Err(Fault::Memory),
+        Err(MetaFault::GroupFull) => unreachable!(),
+        Err(MetaFault::Damaged(_)) => unreachable!(),
     }
 }
 

@@ -8,6 +8,7 @@ ghost use Rattle.volume_inside.specs.Changes.{with_file, keep_files};
 ghost use Rattle.volume_tables.specs.Dropped.{end_bytes};
 
 use crate::raw;
+use crate::room::MOST_RECORDS;
 use crate::tables::Tables;
 use plain_volume::Fault;
 use table_records::{FileRecord, FileTable};
@@ -36,7 +37,7 @@ impl<D: Disk> Tables<D> {
 
     /// Sets the record of a file. Room for 38 bytes of records was ensured.
     pub fn set_file(&mut self, id: u64, file: FileRecord) -> Result<(), Fault>
-        requires { staged_of self.old + 38 ≤ 65472 }
+        requires { staged_of self.old + 38 ≤ MOST_RECORDS }
         ensures { IsSetIn (with_file id file) (find nat_cmp id (tables_now self.old).files) 38 self.old self.new result }
     {
         raw::put::<D, FileTable>(&mut self.log, id, file)
@@ -45,7 +46,7 @@ impl<D: Disk> Tables<D> {
     /// Drops the records of the files from an id on, all of them or those below another. Room for 23 bytes of records
     /// was ensured.
     pub fn drop_file(&mut self, from: u64, to: Option<u64>)
-        requires { staged_of self.old + 23 ≤ 65472 }
+        requires { staged_of self.old + 23 ≤ MOST_RECORDS }
         ensures { IsDroppedIn (keep_files (λ id. not (is_in_range nat_cmp from to id)))
             (5 + 9 + end_bytes (λ id. 9) to) (states_of self.old) self.old self.new }
     {

@@ -16,7 +16,7 @@ ghost use Rattle.volume_inside.specs.Rules.{RulesHold};
 ghost use Rattle.volume_inside.specs.Superblock.{IsSuperblock, HasSuperblock};
 ghost use Rattle.vdisk.specs.Steps.{Keeps};
 ghost use Rattle.volume_tables.specs.Log.{log_epoch, log_place};
-ghost use Rattle.volume_tables.specs.Formats.{IsCommitted, IsFormatFault, with_results};
+ghost use Rattle.volume_tables.specs.Formats.{SpellsFresh, IsFormatFault, with_results};
 ghost use Rattle.volume_tables.specs.Formats.{IsBegun, IsMakeImage, SpellsNoFile};
 ghost use Rattle.volume_tables.specs.Sizes.{tables_bytes};
 ghost use Rattle.volume_tables.specs.Staging.{IsQuiet};
@@ -32,10 +32,9 @@ use std::alloc::Global;
 use table_records::{Memory, ResultRecord, Settings, Texts};
 use table_rules::{Checked, LastResults, Records, TableFault};
 use vdisk::{Disk, Failed, write_synced};
-use volume_inside::{JOURNAL_AT, MountFault, data_clusters, half_bytes, write_superblock};
-
-/// The bytes of a cluster.
-const CLUSTER_BYTES: usize = 4096;
+use volume_inside::{
+    CLUSTER_BYTES, JOURNAL_AT, MountFault, data_clusters, half_bytes, write_superblock,
+};
 
 /// The first record of a volume: version 1, and 1 is drawn next.
 const FIRST_RECORD: [u8; 12] = [0, 0, 0, 1, 0, 0, 0, 0, 0, 0, 0, 1];
@@ -52,7 +51,7 @@ fn superblock_cluster(alloc: Global, clusters: u32) -> Result<Vec<u8>, Memory>
 {
     let mut bytes = Vec::new(alloc);
     bytes.extend_from_slice(&write_superblock(clusters))?;
-    bytes.resize(CLUSTER_BYTES, 0)?;
+    bytes.resize(CLUSTER_BYTES as usize, 0)?;
     Ok(bytes)
 }
 
@@ -69,7 +68,7 @@ fn prepare<D: Disk>(disk: &mut D, clusters: u32, superblock: &[u8]) -> Result<()
     ensures same { D.is_same disk.old disk.new }
     ensures cause { HasCause (D.state disk.old).faults (D.state disk.new).faults result }
 {
-    disk.grow(4096 * clusters as u64)?;
+    disk.grow(CLUSTER_BYTES as u64 * clusters as u64)?;
     write_synced(disk, 0, superblock)
 }
 
@@ -136,7 +135,7 @@ fn commit_first<D: Disk>(
     ensures now { IfOk result (λ new. now_of new ≡ fresh_map) }
     ensures log { IsLog log [] → IfOk result (λ new. IsLog new fresh_map) }
     ensures settled { IsLog log [] → IfOk result (λ new. (c : List ℕ) → (state_of new).may_leave c →
-        IsCommitted log.at log.half (state_of log).image c) }
+        SpellsFresh log.at log.half (state_of log).image c) }
     ensures moments { IsLog log [] → IfOk result (λ new. Keeps (state_of log) (state_of new)
         (SpellsNoFile log.at log.half (length (state_of log).image))) }
     ensures moments_err { IsLog log [] → IfErr result (λ e. Keeps (state_of log) (D.state e.0)
@@ -336,7 +335,7 @@ impl<D: Disk> Tables<D> {
         ensures same { IfOk result (λ tables. D.is_same disk tables.log.disk) }
         ensures same_err { IfErr result (λ e. D.is_same disk e.0) }
     {
-        let asked = 4096 * clusters as u64;
+        let asked = CLUSTER_BYTES as u64 * clusters as u64;
         let size = disk.size();
         if size > asked {
             return Err((disk, MountFault::SizeDiffers(asked, size)));

@@ -1,6 +1,6 @@
 //! The superblock of an image is read.
 
-ghost use Rattle.std.specs.Prelude.{◌≡◌, ◌≤◌, ◌*◌, ◌+◌, ℕ, IsTrue, IfOk, IfErr, IfSome, IfNone, OnOk, length, take};
+ghost use Rattle.std.specs.Prelude.{◌≡◌, ◌≤◌, ◌*◌, ℕ, IsTrue, IfOk, IfErr, IfSome, IfNone, OnOk, length};
 ghost use Rattle.vdisk.specs.Causes.{HasCause};
 ghost use Rattle.vdisk.specs.Disk.{Only, Untouched};
 ghost use Rattle.meta_log.specs.Opened.{IsOnlyRead};
@@ -9,7 +9,7 @@ ghost use Rattle.volume_inside.specs.Superblock.{HasSuperblock};
 ghost use Rattle.volume_tables.specs.Mount.{IsFrontFault};
 
 use vdisk::{Disk, Failed};
-use volume_inside::{MountFault, read_superblock};
+use volume_inside::{CLUSTER_BYTES, MountFault, read_superblock};
 
 /// The number of clusters that the superblock names, or `None` where the disk does not begin with one.
 fn read_clusters<D: Disk>(disk: &mut D) -> Result<Option<u32>, Failed>
@@ -45,7 +45,7 @@ pub(crate) fn read_front<D: Disk>(disk: &mut D) -> Result<u32, MountFault>
         return Err(MountFault::Failed);
     }
     let size = disk.size();
-    if size < 4096 {
+    if size < CLUSTER_BYTES as u64 {
         return Err(MountFault::NotVolume);
     }
     let clusters = match read_clusters(disk) {
@@ -53,7 +53,7 @@ pub(crate) fn read_front<D: Disk>(disk: &mut D) -> Result<u32, MountFault>
         Ok(None) => return Err(MountFault::NotVolume),
         Err(_) => return Err(MountFault::Failed),
     };
-    let named = 4096 * clusters as u64;
+    let named = CLUSTER_BYTES as u64 * clusters as u64;
     if size != named {
         return Err(MountFault::SizeDiffers(named, size));
     }

@@ -5,13 +5,12 @@ ghost use Rattle.volume_inside.specs.Rules.{next_id_of};
 ghost use Rattle.volume_inside.specs.Changes.{with_volume};
 
 use crate::raw;
+use crate::room::MOST_RECORDS;
 use crate::tables::Tables;
+use groundwork::LAST_ID;
 use plain_volume::Fault;
 use table_records::{VolumeRecord, VolumeTable};
 use vdisk::Disk;
-
-/// The last id, which is never drawn.
-pub const LAST_ID: u64 = 281_474_976_710_655;
 
 /// The version of the formats.
 pub(crate) const VERSION: u32 = 1;
@@ -29,7 +28,7 @@ impl<D: Disk> Tables<D> {
     /// Answers the next id, and raises it by one. The fault is `Worn`, exactly where the next id is the last one, and
     /// then nothing has changed. Room for 18 bytes of records was ensured. It takes no memory.
     pub fn next_id(&mut self) -> Result<u64, Fault>
-        requires { staged_of self.old + 18 ≤ 65472 }
+        requires { staged_of self.old + 18 ≤ MOST_RECORDS }
         ensures id { IfOk result (λ id. id ≡ next_id_of (tables_now self.old)) }
         ensures ok { OnOk result (tables_now self.new ≡
             with_volume (record { version = 1; next_id = next_id_of (tables_now self.old) + 1 })
@@ -55,7 +54,7 @@ impl<D: Disk> Tables<D> {
 
     /// Puts the volume's record in its place.
     fn put_next_id(&mut self, next_id: u64)
-        requires room { staged_of self.old + 18 ≤ 65472 }
+        requires room { staged_of self.old + 18 ≤ MOST_RECORDS }
         requires last { next_id ≤ 2 ^ 48 - 1 }
         ensures now { tables_now self.new ≡
             with_volume (record { version = 1; next_id = next_id }) (tables_now self.old) }

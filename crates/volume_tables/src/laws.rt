@@ -20,11 +20,15 @@ ghost use Rattle.volume_tables.specs.Tables.{tables_now, checkpoint_of, disk_of,
 use crate::tables::Tables;
 use vdisk::Disk;
 
-/// Names, ids of files and blocks rise in the tables now.
+/// The keys of each table rise in the tables now.
 pub fn tables_are_in_order<D: Disk>(tables: &Tables<D>)
     ensures names { T (is_sorted bytes_cmp (tables_now tables.now).names) }
     ensures files { T (is_sorted nat_cmp (tables_now tables.now).files) }
     ensures extents { T (is_sorted pair_cmp (tables_now tables.now).extents) }
+    ensures rows { T (is_sorted nat_cmp (tables_now tables.now).chunks.rows) }
+    ensures places { T (is_sorted pair_cmp (tables_now tables.now).chunks.places) }
+    ensures containers { T (is_sorted nat_cmp (tables_now tables.now).chunks.containers) }
+    ensures pages { T (is_sorted pair_cmp (tables_now tables.now).chunks.clusters) }
 {
     let _clusters = tables.clusters;
 }

@@ -4,6 +4,7 @@
 mod call_room;
 mod clusters;
 mod commit;
+mod containers;
 mod ends;
 mod extents;
 mod fault;
@@ -15,18 +16,24 @@ pub mod laws;
 mod mounting;
 mod names;
 mod numbers;
+mod pages;
+mod places;
 mod raw;
 mod raw_extents;
 mod raw_names;
+mod raw_pages;
 mod raw_settings;
 mod results;
 mod room;
+mod rows;
 mod settings;
 mod tables;
 
 pub use call_room::make_room;
-pub use ids::LAST_ID;
+pub use groundwork::LAST_ID;
 pub use room::MOST_RECORDS;
-pub use table_records::{Extent, FileRecord, JobKind, JobResult, ResultRecord, Settings, Texts};
+pub use table_records::{
+    Container, Extent, FileRecord, JobKind, JobResult, Place, ResultRecord, Row, Settings, Texts,
+};
 pub use tables::Tables;
 pub use volume_inside::MountFault;

@@ -4,7 +4,7 @@ ghost use Rattle.std.specs.Prelude.{◌≡◌, ◌≤◌, ◌*◌, T, false, len
 ghost use Rattle.std.specs.FinMap.Entries.{is_sorted};
 ghost use Rattle.byte_map.specs.Words.{bytes_cmp};
 ghost use Rattle.meta_log.specs.Log.{IsLog, now_of, staged_of, state_of};
-ghost use Rattle.meta_log.specs.Opened.{IsOnlyRead};
+ghost use Rattle.meta_log.specs.Opened.{IsOnlyRead, IsOpenFault};
 ghost use Rattle.meta_log.specs.Ready.{GoesOnFrom};
 ghost use Rattle.table_rules.specs.Found.{AreRecordsOf};
 ghost use Rattle.table_rules.specs.Marks.{IsFilled};
@@ -14,33 +14,35 @@ ghost use Rattle.volume_inside.specs.Named.{clusters_of};
 ghost use Rattle.volume_inside.specs.Rules.{IsVolume, RulesHold};
 ghost use Rattle.volume_inside.specs.Shows.{Kept};
 ghost use Rattle.volume_inside.specs.Typed.{typed_of};
-ghost use Rattle.volume_tables.specs.Mount.{read_meta, ends_from, IsLogFault};
+ghost use Rattle.volume_tables.specs.Mount.{read_meta, IsLogFault};
 ghost use Rattle.volume_tables.specs.Mount.{IsInnerFault, IsMountFault, mount_fault_of};
 ghost use Rattle.volume_tables.specs.Mounted.{IsMountedFrom, AreTablesOf};
 ghost use Rattle.volume_tables.specs.Log.{log_now};
 ghost use Rattle.volume_tables.specs.Tables.{tables_now, inside_now, view_now, area_of, due_of, IsToldBy};
 ghost use Rattle.volume_tables.specs.Tables.{disk_of, states_of, staged_of as staged_in, stopped, IsTables};
 
-use crate::ends::{JobEnd, JobEnds};
+use crate::ends::JobEnds;
 use crate::front::read_front;
 use crate::raw_names;
 use crate::tables::Tables;
 use meta_log::{MetaFault, MetaLog};
 use std::alloc::Global;
-use table_rules::{Checked, LastResults, Records, read_tables};
+use table_rules::{Checked, Records, read_tables};
 use vdisk::Disk;
 use volume_inside::{JOURNAL_AT, MountFault, half_bytes};
 
-/// What a refusal to open the journal is for a mount. That there is no room for records does not come here.
+/// What a refusal to open the journal is for a mount.
 pub(crate) fn mount_fault(fault: MetaFault) -> MountFault
+    requires { IsOpenFault fault }
     ensures { result ≡ mount_fault_of fault }
 {
     match fault {
         MetaFault::Damaged(half) => MountFault::MetaDamaged(half),
         MetaFault::Failed => MountFault::Failed,
-        MetaFault::Memory | MetaFault::GroupFull | MetaFault::TableFull | MetaFault::Worn => {
-            MountFault::Memory
-        }
+        MetaFault::Memory => MountFault::Memory,
+        MetaFault::GroupFull => unreachable!(),
+        MetaFault::TableFull => unreachable!(),
+        MetaFault::Worn => unreachable!(),
     }
 }
 
@@ -70,30 +72,6 @@ fn open_log<D: Disk>(alloc: Global, disk: D, clusters: u32) -> Result<MetaLog<D>
     }
 }
 
-/// The ends of jobs whose records are all in the journal.
-fn ends_of(results: LastResults) -> JobEnds
-    ensures { result ≡ ends_from results }
-{
-    JobEnds {
-        optimization: JobEnd {
-            last: results.optimization,
-            staged: results.optimization,
-        },
-        garbage_collection: JobEnd {
-            last: results.garbage_collection,
-            staged: results.garbage_collection,
-        },
-        scrubbing: JobEnd {
-            last: results.scrubbing,
-            staged: results.scrubbing,
-        },
-        unoptimization: JobEnd {
-            last: results.unoptimization,
-            staged: results.unoptimization,
-        },
-    }
-}
-
 /// The tables over a journal that was just opened or made, with what was found in it.
 pub(crate) fn assemble<D: Disk>(log: MetaLog<D>, clusters: u32, found: Checked) -> Tables<D>
     requires least { 4096 ≤ clusters }
@@ -120,7 +98,10 @@ pub(crate) fn assemble<D: Disk>(log: MetaLog<D>, clusters: u32, found: Checked) 
         settings,
         results,
     } = records;
-    let ends = ends_of(results);
+    let ends = JobEnds {
+        last: results,
+        staged: results,
+    };
     let names = raw_names::count_names(&log);
     Tables {
         log,

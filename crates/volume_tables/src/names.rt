@@ -10,6 +10,7 @@ ghost use Rattle.volume_tables.specs.Dropped.{end_bytes};
 ghost use Rattle.volume_tables.specs.Log.{log_now};
 
 use crate::raw_names;
+use crate::room::MOST_RECORDS;
 use crate::tables::Tables;
 use plain_volume::Fault;
 use vdisk::Disk;
@@ -56,7 +57,7 @@ impl<D: Disk> Tables<D> {
     /// ensured.
     pub fn set_name(&mut self, name: &[u8], id: u64) -> Result<(), Fault>
         requires short { length name.now ≤ 255 }
-        requires room { staged_of self.old + (14 + length name.now) ≤ 65472 }
+        requires room { staged_of self.old + (14 + length name.now) ≤ MOST_RECORDS }
         ensures { IsSetIn (with_name name.now id) (find bytes_cmp name.now (tables_now self.old).names)
             (14 + length name.now) self.old self.new result }
     {
@@ -71,7 +72,7 @@ impl<D: Disk> Tables<D> {
     pub fn drop_name(&mut self, from: &[u8], to: Option<&[u8]>)
         requires short { length from.now ≤ 255 }
         requires short_end { IfSome to (λ name. length name.now ≤ 255) }
-        requires room { staged_of self.old + (262 + length from.now) ≤ 65472 }
+        requires room { staged_of self.old + (262 + length from.now) ≤ MOST_RECORDS }
         ensures { IsDroppedIn (keep_names (λ name. not (is_in_range bytes_cmp from.now (option_map
             (λ name. name.now) to.entry) name)))
             (5 + (1 + length from.now) + end_bytes (λ name. 1 + length name) (option_map (λ name. name.now) to.entry))

@@ -2,7 +2,7 @@
 
 ghost use Rattle.std.specs.Prelude.{◌≡◌, ◌≤◌, ◌+◌, ℕ, List, [], ◌∷◌, length, take, None, Some, IsTrue};
 ghost use Rattle.std.specs.FinMap.Entries.{find};
-ghost use Rattle.byte_map.specs.Words.{first_of, next_in, bytes_cmp};
+ghost use Rattle.byte_map.specs.Words.{first_of, next_in};
 ghost use Rattle.table_records.specs.Codecs.{typed, IsKeyed};
 ghost use Rattle.table_records.specs.Changes.{EndsRange};
 ghost use Rattle.volume_tables.specs.Log.{log_now, log_staged};

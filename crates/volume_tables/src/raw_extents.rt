@@ -17,7 +17,7 @@ use table_records::{Extent, ExtentTable};
 use vdisk::Disk;
 
 /// Whether a key is below the end of a range, if it has one.
-fn is_below(key: (u64, u32), to: Option<(u64, u32)>) -> bool
+pub(crate) fn is_below(key: (u64, u32), to: Option<(u64, u32)>) -> bool
     ensures { result ≡ is_under pair_cmp to key }
 {
     match to {

@@ -1,6 +1,6 @@
 //! The record of the settings in the journal's map.
 
-ghost use Rattle.std.specs.Prelude.{◌≡◌, ◌≤◌, ◌<◌, ◌+◌, ◌^◌, length};
+ghost use Rattle.std.specs.Prelude.{◌≡◌, ◌≤◌, ◌<◌, ◌+◌, ◌^◌};
 ghost use Rattle.table_records.specs.Settings.{settings_bytes, AreSpellable};
 ghost use Rattle.table_records.specs.Tables.{settings_codec};
 ghost use Rattle.volume_tables.specs.Log.{log_staged};

@@ -7,45 +7,23 @@ ghost use Rattle.meta_log.specs.Log.{checkpoint_length};
 ghost use Rattle.table_records.specs.Codecs.{typed};
 ghost use Rattle.table_records.specs.Keys.{kind_cmp};
 ghost use Rattle.table_records.specs.Tables.{result_codec};
+ghost use Rattle.table_rules.specs.Found.{result_of};
 ghost use Rattle.volume_inside.specs.Changes.{with_result};
 ghost use Rattle.volume_inside.specs.Typed.{typed_of};
 ghost use Rattle.volume_tables.specs.Contents.{HasEnds};
-ghost use Rattle.volume_tables.specs.Ends.{end_of, with_end, with_staged, all_staged, unstaged, unstaged_in};
+ghost use Rattle.volume_tables.specs.Ends.{with_staged, all_staged, unstaged, unstaged_in};
 ghost use Rattle.volume_tables.specs.Log.{log_now, log_staged};
 ghost use Rattle.volume_tables.specs.Spelled.{are_well_formed};
 ghost use Rattle.volume_tables.specs.Staging.{IsQuiet};
 ghost use Rattle.volume_tables.specs.Tables.{with_ends};
 
-use crate::ends::{JobEnd, JobEnds};
+use crate::ends::JobEnds;
 use crate::raw;
+use crate::room::MOST_RECORDS;
 use crate::tables::Tables;
 use meta_log::MetaLog;
 use table_records::{JobKind, ResultRecord, ResultTable};
 use vdisk::Disk;
-
-impl JobEnds {
-    fn of(&self, kind: JobKind) -> JobEnd
-        ensures { result ≡ end_of kind self.now }
-    {
-        match kind {
-            JobKind::Optimization => self.optimization,
-            JobKind::GarbageCollection => self.garbage_collection,
-            JobKind::Scrubbing => self.scrubbing,
-            JobKind::Unoptimization => self.unoptimization,
-        }
-    }
-
-    fn set(&mut self, kind: JobKind, end: JobEnd)
-        ensures { self.new ≡ with_end kind end self.old }
-    {
-        match kind {
-            JobKind::Optimization => self.optimization = end,
-            JobKind::GarbageCollection => self.garbage_collection = end,
-            JobKind::Scrubbing => self.scrubbing = end,
-            JobKind::Unoptimization => self.unoptimization = end,
-        }
-    }
-}
 
 /// Puts the record of a kind of job in its place.
 fn put_end<D: Disk>(log: &mut MetaLog<D>, kind: JobKind, end: ResultRecord)
@@ -69,30 +47,24 @@ fn stage_end<D: Disk>(log: &mut MetaLog<D>, ends: &mut JobEnds, kind: JobKind)
     requires room { log_staged log.old + 16 ≤ 65536 }
     ensures there { HasEnds (log_now log.new) (with_staged kind ends.old) }
     ensures ends { ends.new ≡ with_staged kind ends.old }
-    ensures tables { let end = end_of kind ends.old in
-        typed_of (log_now log.new) ≡ with_result kind end.last (typed_of (log_now log.old)) }
-    ensures staged { log_staged log.new ≡ log_staged log.old + 16 * unstaged (end_of kind ends.old) }
+    ensures tables { typed_of (log_now log.new)
+        ≡ with_result kind (result_of kind ends.old.last) (typed_of (log_now log.old)) }
+    ensures staged { log_staged log.new ≡ log_staged log.old + 16 * unstaged kind ends.old }
     ensures checkpoint { checkpoint_length (log_now log.new) ≡ checkpoint_length (log_now log.old) }
     ensures quiet { IsQuiet log.old log.new }
 {
-    let end = ends.of(kind);
-    if end.last == end.staged {
+    let last = ends.last.of(kind);
+    if last == ends.staged.of(kind) {
         return;
     }
-    put_end(log, kind, end.last);
-    ends.set(
-        kind,
-        JobEnd {
-            last: end.last,
-            staged: end.last,
-        },
-    );
+    put_end(log, kind, last);
+    ends.staged.set(kind, last);
 }
 
 /// Stages how the last jobs ended, those that are not staged.
 pub(crate) fn stage_ends<D: Disk>(log: &mut MetaLog<D>, ends: &mut JobEnds)
     requires there { HasEnds (log_now log.old) ends.old }
-    requires room { log_staged log.old ≤ 65472 }
+    requires room { log_staged log.old ≤ MOST_RECORDS }
     ensures there { HasEnds (log_now log.new) (all_staged ends.old) }
     ensures ends { ends.new ≡ all_staged ends.old }
     ensures tables { typed_of (log_now log.new) ≡ with_ends ends.old (typed_of (log_now log.old)) }
@@ -114,12 +86,7 @@ impl<D: Disk> Tables<D> {
     pub fn get_result(&self, kind: JobKind) -> ResultRecord
         ensures { find kind_cmp kind (tables_now self.now).results ≡ Some result }
     {
-        match kind {
-            JobKind::Optimization => self.ends.optimization.last,
-            JobKind::GarbageCollection => self.ends.garbage_collection.last,
-            JobKind::Scrubbing => self.ends.scrubbing.last,
-            JobKind::Unoptimization => self.ends.unoptimization.last,
-        }
+        self.ends.last.of(kind)
     }
 
     /// Sets how the last job of a kind ended. The next commit makes it durable; until then it is lost with these
@@ -127,7 +94,6 @@ impl<D: Disk> Tables<D> {
     pub fn set_result(&mut self, kind: JobKind, end: ResultRecord)
         ensures { IsResultSet kind end self.old self.new }
     {
-        let staged = self.ends.of(kind).staged;
-        self.ends.set(kind, JobEnd { last: end, staged });
+        self.ends.last.set(kind, end);
     }
 }

@@ -5,6 +5,9 @@ use Rattle.answer_text.specs.Answers.{Refused, refusal_text}
 use Rattle.ddpsh.proofs.CallLaws.{comes_none, plain_exit}
 use Rattle.ddpsh.proofs.calls.answer.Goals as goal
 
+pub answer_line-requires-clause-fits : goal.answer_line-requires-clause-fits
+answer_line-requires-clause-fits g c = rw c.in-Ok.is at c.requires.fits
+
 pub returns-in-Err-clause-told : goal.returns-in-Err-clause-told
 returns-in-Err-clause-told g c w kept =
     rw (c.in-Err.is, c.uncalled.ensures)

@@ -6,6 +6,9 @@ use Rattle.answer_text.specs.Answers.{Nothing}
 use Rattle.ddpsh.proofs.CallLaws.{comes_none, plain_exit}
 use Rattle.ddpsh.proofs.calls.answer_line.Goals as goal
 
+pub fill-requires-clause-small : goal.fill-requires-clause-small
+fill-requires-clause-small g c = (rw c.in-Fill.is at c.requires.fits).2
+
 pub returns-in-Silent-clause-told : goal.returns-in-Silent-clause-told
 returns-in-Silent-clause-told g c w kept =
     rw (c.in-Silent.is, c.uncalled.ensures) (comes_none (Bare Silent) c.args.volume.now (λ before. Nothing) c.silent.new.text.items (Ok c.silent.result) (λ s calls answer h. h) plain_exit refl c.silent.ensures)
@@ -51,7 +54,7 @@ returns-in-Silent-clause-idle g c none =
     rw (c.in-Silent.is, c.uncalled.ensures) (comes_none (Bare Silent) c.args.volume.now (λ before. Nothing) c.silent.new.text.items (Ok c.silent.result) (λ s calls answer h. h) plain_exit refl c.silent.ensures)
 
 pub returns-in-Silent-clause-stays : goal.returns-in-Silent-clause-stays
-returns-in-Silent-clause-stays g c never = c.requires
+returns-in-Silent-clause-stays g c never = c.requires.running
 
 pub returns-in-Write-clause-idle : goal.returns-in-Write-clause-idle
 returns-in-Write-clause-idle g c = rw c.in-Write.is c.write_line.ensures.idle
@@ -117,10 +120,10 @@ pub returns-in-Stat-clause-idle : goal.returns-in-Stat-clause-idle
 returns-in-Stat-clause-idle g c = rw c.in-Stat.is (λ none. absurd (false≢true none))
 
 pub returns-in-Stat-clause-stays : goal.returns-in-Stat-clause-stays
-returns-in-Stat-clause-stays g c never = c.requires
+returns-in-Stat-clause-stays g c never = c.requires.running
 
 pub returns-in-List-clause-idle : goal.returns-in-List-clause-idle
 returns-in-List-clause-idle g c = rw c.in-List.is (λ none. absurd (false≢true none))
 
 pub returns-in-List-clause-stays : goal.returns-in-List-clause-stays
-returns-in-List-clause-stays g c never = c.requires
+returns-in-List-clause-stays g c never = c.requires.running

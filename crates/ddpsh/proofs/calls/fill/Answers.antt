@@ -47,4 +47,4 @@ returns-in-Ok-clause-steady g c =
 pub returns-in-Err-clause-steady : goal.returns-in-Err-clause-steady
 returns-in-Err-clause-steady g c =
     let memory : c.in-Err.fault ≡ stop.Memory = cc c.in-Err.ensures.memory in
-    rw c.uncalled.ensures (steady_none c.args.volume.now (Err c.in-Err.fault) c.requires (ap Err memory))
+    rw c.uncalled.ensures (steady_none c.args.volume.now (Err c.in-Err.fault) c.requires.running (ap Err memory))

@@ -5,7 +5,7 @@ use Rattle.plain_volume.specs.declared.call.Call.TheVariants as call
 use Rattle.answer_text.specs.Answers.{file_line}
 use Rattle.volume_core.specs.Replies.{length_reply, name_reply}
 use Rattle.volume_core.specs.Volumes.{view_now}
-use Rattle.ddpsh.proofs.ListLaws.{Listed, listed_start, listed_more, listed_few, name_of, stat_given, comes_list, broken_line, broken_name}
+use Rattle.ddpsh.proofs.ListLaws.{Listed, listed_start, listed_more, listed_few, name_of, name_fault, stat_given, comes_list, broken_line, broken_name}
 use Rattle.ddpsh.proofs.listing.list.Goals as goal
 
 pub loop-count-init : goal.loop-count-init
@@ -23,8 +23,8 @@ returns-in-Ok-None-clause-told g c =
     (name_of (view_now c.args.volume.now) c.loop-count.last None c.next_name.result
     (c.in-Ok-None.is ∙ ap Ok c.in-Ok-None.field-0-is) own) c.accepted_lines.ensures.said
 
-pub returns-in-Err-clause-told : goal.returns-in-Err-clause-told
-returns-in-Err-clause-told g c =
+pub returns-in-Memory-clause-told : goal.returns-in-Memory-clause-told
+returns-in-Memory-clause-told g c =
     rw c.cut_short.ensures
     (broken_name c.args.volume.now c.loop-count.count c.loop-count.last c.loop-count.text.items c.loop-count.invariant
     (2 * c.loop-count.count + 1) refl)
@@ -36,13 +36,24 @@ unreachable-requires g c =
     IsOwnOrMemory (view_now c.args.volume.now) (call.Next o) (name_reply c.next_name.result)
     (view_now c.args.volume.now))
     c.bytes_in.ensures c.next_name.ensures in
+    let memory = name_fault (view_now c.args.volume.now) c.loop-count.last c.next_name.result c.in-Err.fault
+    c.in-Err.is own in
+    c.in_default.not-Memory memory
+
+pub unreachable-requires-in_default-stat : goal.unreachable-requires-in_default-stat
+unreachable-requires-in_default-stat g c =
+    let own = subst
+    (λ (o : Option (List ℕ)).
+    IsOwnOrMemory (view_now c.args.volume.now) (call.Next o) (name_reply c.next_name.result)
+    (view_now c.args.volume.now))
+    c.bytes_in.ensures c.next_name.ensures in
     let given = subst
     (λ (n : List ℕ). length_reply c.stat.result ≡ own_reply (plain (view_now c.args.volume.now) (call.Stat n)))
     c.as_bytes.ensures c.stat.ensures in
     stat_given (view_now c.args.volume.now) c.volume_is_lawful.ensures c.loop-count.count c.loop-count.last
-    c.loop-count.text.items c.loop-count.invariant c.in-Ok-Some.name c.stat.result c.in_default.field-0
+    c.loop-count.text.items c.loop-count.invariant c.in-Ok-Some.name c.stat.result c.in_default-stat.field-0
     (name_of (view_now c.args.volume.now) c.loop-count.last (Some c.in-Ok-Some.name) c.next_name.result
-    (c.in-Ok-Some.is ∙ ap Ok c.in-Ok-Some.field-0-is) own) given c.in_default.is
+    (c.in-Ok-Some.is ∙ ap Ok c.in-Ok-Some.field-0-is) own) given c.in_default-stat.is
 
 pub returns-in-Err-add_line-clause-told : goal.returns-in-Err-add_line-clause-told
 returns-in-Err-add_line-clause-told g c =

@@ -1,10 +1,8 @@
-use Rattle.std.proofs.Common.{refl}
-use Rattle.ddpsh.specs.declared.ending.End.TheVariants as ends
 use Rattle.ddpsh.proofs.LineOfLaws.{step_end_as, step_end_none}
 use Rattle.ddpsh.proofs.serving.end_session.Goals as goal
 
 pub returns-then-is_err-clause-told : goal.returns-then-is_err-clause-told
-returns-then-is_err-clause-told g c w kept = step_end_none c.args.session.now ends.Memory c.args.acks.now.items c.reserve.new.self.items refl c.reserve.ensures.items
+returns-then-is_err-clause-told g c w kept = step_end_none c.args.session.now c.args.acks.now.items c.reserve.new.self.items c.reserve.ensures.items
 
 pub returns-clause-told : goal.returns-clause-told
 returns-clause-told g c w kept =

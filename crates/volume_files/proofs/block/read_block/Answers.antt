@@ -14,8 +14,8 @@ returns-in-Some-clause-bytes g c stored is =
     let e = c.in-Some.extent in
     let image = (disk_of c.args.tables.now).image in
     let old = c.args.block.now in
-    on_ok_weaker c.read_front.result
+    on_ok_weaker c.read_extent.result
     (λ read o low. ap (λ (xs : List ℕ). get_or xs o 0) read
     ∙ padded (block_of e image) (drop e.valid old) (λ j. get_or-drop e.valid old j 0 ∙ c.requires.zeros (e.valid + j)) o
     ∙ ap (λ (w : Option Extent). get_or (named_bytes w image) o 0) (sym c.in-Some.is))
-    (c.read_front.ensures.bytes stored is)
+    (c.read_extent.ensures.bytes stored is)

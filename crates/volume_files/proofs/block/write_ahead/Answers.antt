@@ -1,4 +1,4 @@
-use Rattle.std.proofs.Common.{ℕ, ◌<◌, arith}
+use Rattle.std.proofs.Common.{arith}
 use Rattle.std.proofs.lemmas.Result.{IfOk-weaker}
 use Rattle.volume_tables.specs.Tables.{disk_of}
 use Rattle.volume_files.proofs.Ahead.{first_laid, rest_ahead, if_three}

@@ -1,4 +1,4 @@
-use Rattle.std.proofs.Common.{ℕ, ◌<◌, ◌∙◌}
+use Rattle.std.proofs.Common.{◌∙◌}
 use Rattle.volume_tables.specs.Tables.{disk_of}
 use Rattle.volume_tables.proofs.Leaving.{leaves_then}
 use Rattle.volume_files.proofs.Ahead.{alone_laid, if_two}
@@ -15,4 +15,4 @@ returns-clause-block g c stored is =
 pub returns-clause-leaves : goal.returns-clause-leaves
 returns-clause-leaves g c =
     leaves_then g.met.D.Disk.same_next c.args.tables.now c.block_with.new.tables c.write_free_run.new.self
-    c.block_with.ensures.leaves c.write_free_run.ensures.leaves
+    c.block_with.ensures.leaves c.write_free_run.ensures.writes.leaves

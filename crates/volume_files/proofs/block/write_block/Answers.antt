@@ -1,18 +1,17 @@
-use Rattle.std.proofs.Common.{◌≡◌, ◌<◌, ◌+◌, ◌-◌, ◌*◌, ℕ, List, take, get_or, length, min, sym, ◌∙◌, ap, subst, arith, rules}
+use Rattle.std.proofs.Common.{◌≡◌, ◌<◌, ◌+◌, ◌-◌, ◌*◌, ℕ, List, take, get_or, length, min, sym, ◌∙◌, ap, subst, arith}
 use Rattle.std.specs.Prelude.{Option}
 use Rattle.std.specs.Option.{option_map}
 use Rattle.std.specs.FinMap.{find}
 use Rattle.std.proofs.lemmas.List.{get_or-take}
-use Rattle.cluster_space.specs.declared.run.Run.{Run}
 use Rattle.table_records.specs.Keys.{pair_cmp}
 use Rattle.table_records.specs.declared.records.Extent.{Extent}
 use Rattle.volume_inside.specs.Inside.{Inside, block_of, cluster_bytes, inside_at}
 use Rattle.volume_inside.specs.Typed.{Typed, FileBlock}
 use Rattle.volume_inside.specs.Changes.{with_block, with_file}
-use Rattle.volume_tables.specs.Tables.{tables_now, inside_now, disk_of}
+use Rattle.volume_tables.specs.Tables.{tables_now, disk_of}
 use Rattle.volume_tables.proofs.Leaving.{leaves_then}
 use Rattle.volume_files.specs.Insides.{block_written}
-use Rattle.volume_files.specs.Writing.{rest_of, AreAhead, AreFilled}
+use Rattle.volume_files.specs.Writing.{without_first, AreAhead, AreFilled}
 use Rattle.volume_files.proofs.Ahead.{free_still, first_free, rest_free, first_low, first_whole}
 use Rattle.volume_files.proofs.BlockSet.{readable, rules_same, rules_block, inside_set}
 use Rattle.volume_files.proofs.Insides.{block_is_written}
@@ -110,7 +109,7 @@ returns-clause-filled g c =
 pub returns-clause-ahead : goal.returns-clause-ahead
 returns-clause-ahead g c stored is ahead =
     let next : 4096 * c.args.key.1 + 4096 ≡ 4096 * (c.args.key.1 + 1) = omega arith in
-    subst (λ (p : ℕ × List ℕ). AreAhead p.0 c.args.at c.args.bytes.now (rest_of c.in_ok-ready.ready) p.1)
+    subst (λ (p : ℕ × List ℕ). AreAhead p.0 c.args.at c.args.bytes.now (without_first c.in_ok-ready.ready) p.1)
     (λ i. (next i, sym c.name_block.ensures.image i))
     (c.in_ok-ready.ensures.ahead stored is ahead)
 

@@ -1,4 +1,4 @@
-use Rattle.std.proofs.Common.{ℕ, ◌<◌, arith}
+use Rattle.std.proofs.Common.{arith}
 use Rattle.volume_tables.specs.Tables.{disk_of}
 use Rattle.volume_files.proofs.Ahead.{written_ahead, if_two}
 use Rattle.volume_files.proofs.block.write_filled.Goals as goal

@@ -70,15 +70,15 @@ write_blocks-requires g t c κs within =
       ),
     )
 
-pub take_back-requires-clause-there : goal.take_back-requires-clause-there
-take_back-requires-clause-there g t c =
+pub restore_extent-requires-clause-there : goal.restore_extent-requires-clause-there
+restore_extent-requires-clause-there g t c =
     let k : FileBlock = (c.args.file, c.args.index) in
     let e = c.in_ok-written.written.extent in
     ap (λ (q : Typed). find pair_cmp k q.extents) (c.in-Err.ensures.err ∙ c.in_ok-written.ensures.ok)
     ∙ found_put k e (tables_now c.args.tables.now).extents
 
-pub take_back-requires-clause-deferred : goal.take_back-requires-clause-deferred
-take_back-requires-clause-deferred g t c o was =
+pub restore_extent-requires-clause-deferred : goal.restore_extent-requires-clause-deferred
+restore_extent-requires-clause-deferred g t c o was =
     let has = c.in_ok-written.ensures.replaced o was in
     let clusters = c.write_blocks.ensures.leaves.clusters in
     let there : first_data_cluster c.write_blocks.new.tables.clusters ≡ first_data_cluster
@@ -124,15 +124,15 @@ returns-in-Ok-clause-leaves g t c =
 pub returns-in-Err-clause-err : goal.returns-in-Err-clause-err
 returns-in-Err-clause-err g t c =
     let a = c.args.tables.now in
-    c.take_back.ensures.tables (tables_now a) c.in_ok-written.written.extent (sorted_now a) (sym c.get_extent-was.ensures)
+    c.restore_extent.ensures.tables (tables_now a) c.in_ok-written.written.extent (sorted_now a) (sym c.get_extent-was.ensures)
     (c.in-Err.ensures.err ∙ c.in_ok-written.ensures.ok)
 
 pub returns-in-Err-clause-leaves : goal.returns-in-Err-clause-leaves
 returns-in-Err-clause-leaves g t c =
     let next = g.met.D.Disk.same_next in
-    leaves_then next c.args.tables.now c.write_block.new.tables c.take_back.new.tables c.write_block.ensures.leaves
-    (leaves_then next c.write_block.new.tables c.write_blocks.new.tables c.take_back.new.tables
-    c.write_blocks.ensures.leaves c.take_back.ensures.leaves)
+    leaves_then next c.args.tables.now c.write_block.new.tables c.restore_extent.new.tables c.write_block.ensures.leaves
+    (leaves_then next c.write_block.new.tables c.write_blocks.new.tables c.restore_extent.new.tables
+    c.write_blocks.ensures.leaves c.restore_extent.ensures.leaves)
 
 pub returns-in-Err-clause-deferred : goal.returns-in-Err-clause-deferred
 returns-in-Err-clause-deferred g t c k is =
@@ -142,7 +142,7 @@ returns-in-Err-clause-deferred g t c k is =
     ∙ c.write_block.ensures.leaves.clusters in
     let first : first_data_cluster c.write_blocks.new.tables.clusters ≡ first_data_cluster a.clusters = ap
     first_data_cluster clusters in
-    c.take_back.ensures.deferred k (c.in-Err.ensures.deferred k (c.write_block.ensures.fewer.deferred k is))
+    c.restore_extent.ensures.deferred k (c.in-Err.ensures.deferred k (c.write_block.ensures.fewer.deferred k is))
     (λ o was same.
     let has = found_used a.clusters key o a.space (tables_now a) (held_now a) a.spaces
     (sym c.get_extent-was.ensures ∙ was) in
@@ -169,8 +169,8 @@ returns-in-Ok-clause-spends g t c =
 pub returns-in-Err-clause-spends : goal.returns-in-Err-clause-spends
 returns-in-Err-clause-spends g t c =
     let a = c.args.tables.now in
-    spends_none (blocks_up_to (c.args.at + length c.args.bytes.now) c.args.index) 0 a c.take_back.new.tables
-    (c.take_back.ensures.tables (tables_now a) c.in_ok-written.written.extent (sorted_now a)
+    spends_none (blocks_up_to (c.args.at + length c.args.bytes.now) c.args.index) 0 a c.restore_extent.new.tables
+    (c.restore_extent.ensures.tables (tables_now a) c.in_ok-written.written.extent (sorted_now a)
     (sym c.get_extent-was.ensures) (c.in-Err.ensures.err ∙ c.in_ok-written.ensures.ok))
 
 pub returns-in-Ok-clause-inside : goal.returns-in-Ok-clause-inside
@@ -188,7 +188,7 @@ pub returns-in-Err-clause-halts : goal.returns-in-Err-clause-halts
 returns-in-Err-clause-halts g t c failed =
     let a = c.args.tables.now in
     let u = c.write_block.new.tables in
-    ⊎_elim (λ stops. inl (c.take_back.ensures.running ∙ stops))
+    ⊎_elim (λ stops. inl (c.restore_extent.ensures.running ∙ stops))
     (λ later. inr (reads_later c.args.file c.args.index c.args.at (length c.args.bytes.now) (tables_now a)
     (tables_now u) c.in_ok-written.written.extent c.in_ok-written.ensures.ok later))
     (c.in-Err.ensures.halts failed)

@@ -1,5 +1,4 @@
-use Rattle.std.proofs.Common.{◌≡◌, ℕ, Err, sym, subst, refl, rules}
-use Rattle.plain_volume.specs.declared.call.Fault.{Fault}
+use Rattle.std.proofs.Common.{◌≡◌, Err, sym, refl, rules}
 use Rattle.volume_inside.specs.Typed.{Typed}
 use Rattle.volume_tables.specs.Tables.{tables_now, clusters_in}
 use Rattle.volume_tables.proofs.Endured.{endures_leaves}
@@ -15,7 +14,6 @@ use Rattle.volume_tables.specs.Tables.{disk_of}
 use Rattle.volume_files.specs.Insides.{inside_deleted}
 use Rattle.volume_files.specs.Names.{without_name}
 use Rattle.volume_files.specs.Needs.{delete_needs, delete_bytes}
-use Rattle.volume_tables.specs.Stages.{Stages}
 use Rattle.volume_files.proofs.Pending.{err_same, pending_refused, pending_stages}
 use Rattle.volume_tables.proofs.Stagings.{stages_as}
 use Rattle.volume_files.proofs.Insides.{inside_left, inside_gone}

@@ -2,9 +2,7 @@ use Rattle.std.proofs.Common.{ℕ, List, None, ◌∙◌, ap, refl, arith}
 use Rattle.volume_tables.specs.Tables.{tables_now}
 use Rattle.volume_files.proofs.Found.{names_in_order}
 use Rattle.byte_map.specs.Words.{bytes_cmp, next_in}
-use Rattle.volume_files.specs.Names.{is_other}
 use Rattle.volume_files.specs.Needs.{drop_bytes}
-use Rattle.volume_inside.specs.Changes.{keep_names}
 use Rattle.volume_files.proofs.OneName.{one_name_dropped, end_is_next}
 use Rattle.volume_tables.proofs.Stagings.{quiet_stages}
 use Rattle.volume_files.proofs.deleting.drop_one_name.Goals as goal

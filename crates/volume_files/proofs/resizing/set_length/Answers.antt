@@ -3,7 +3,7 @@ use Rattle.plain_volume.specs.declared.limits.TheConstants.{MOST_BYTES_OF_A_FILE
 use Rattle.volume_tables.specs.Tables.{tables_now, clusters_in}
 use Rattle.volume_tables.proofs.Endured.{endures_leaves}
 use Rattle.volume_files.specs.Needs.{length_needs}
-use Rattle.volume_files.proofs.Pending.{err_same, found_same, pending_refused, pending_stages}
+use Rattle.volume_files.proofs.Pending.{err_same, pending_refused, pending_stages}
 use Rattle.volume_tables.proofs.Stagings.{stages_as}
 use Rattle.volume_tables.specs.Pending.{roomed_of, worn_of}
 use Rattle.volume_files.proofs.Resized.{records_same, small_id, sound_resized, view_left}

@@ -4,7 +4,7 @@ use Rattle.vdisk.specs.Steps.{Keeps}
 use Rattle.meta_log.specs.Log.{IsLog}
 use Rattle.meta_log.specs.declared.log.MetaLog.{MetaLog}
 use Rattle.volume_inside.specs.Fresh.{fresh_map}
-use Rattle.volume_tables.specs.Formats.{IsCommitted, IsMakeImage}
+use Rattle.volume_tables.specs.Formats.{SpellsFresh, IsMakeImage}
 use Rattle.volume_inside.specs.Fresh.{fresh_tables}
 use Rattle.volume_tables.proofs.Told.{told_by_image}
 use Rattle.volume_tables.proofs.Committed.{formatted_tables, formatted_kept}
@@ -27,8 +27,8 @@ returns-in-Ok-commit_first-clause-kept g c told =
     let before = subst (λ (l : MetaLog g.row.D.Denot g.D.Disk). (g.D.Disk.state l.disk).may_leave q)
     c.assemble.ensures.log left in
     let settled = c.in-Ok-commit_first.ensures.settled (c.in-Ok-make_log.ensures.log told) q before in
-    subst (λ (k : ℕ). IsCommitted 4096 k image q) c.in-Ok-make_log.ensures.half
-    (subst (λ (k : ℕ). IsCommitted k made.half image q) c.in-Ok-make_log.ensures.at settled))
+    subst (λ (k : ℕ). SpellsFresh 4096 k image q) c.in-Ok-make_log.ensures.half
+    (subst (λ (k : ℕ). SpellsFresh k made.half image q) c.in-Ok-make_log.ensures.at settled))
 
 pub returns-in-Ok-commit_first-clause-same : goal.returns-in-Ok-commit_first-clause-same
 returns-in-Ok-commit_first-clause-same g c =

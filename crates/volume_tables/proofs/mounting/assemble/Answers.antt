@@ -1,13 +1,7 @@
-use Rattle.std.proofs.Common.{arith, sym, subst}
+use Rattle.std.proofs.Common.{arith}
 use Rattle.table_rules.specs.Found.{volume_record}
-use Rattle.volume_inside.specs.Rules.{IsVolumeRecord, RulesHold}
-use Rattle.volume_inside.specs.Typed.{typed_of}
-use Rattle.std.proofs.Common.{◌∙◌, ap}
-use Rattle.volume_tables.specs.Contents.{HasContents}
-use Rattle.volume_tables.specs.Ends.{unstaged_in}
-use Rattle.volume_tables.proofs.Told.{none_unstaged}
-use Rattle.volume_tables.specs.Tables.{with_ends}
-use Rattle.volume_tables.specs.declared.ends.JobEnds.{JobEnds}
+use Rattle.volume_inside.specs.Rules.{IsVolumeRecord}
+use Rattle.volume_tables.proofs.Pended.{none_left}
 use Rattle.volume_tables.proofs.Assembled.{contents_found, held_found, lawful_found, rules_found}
 use Rattle.volume_tables.proofs.mounting.assemble.Goals as goal
 
@@ -27,8 +21,7 @@ invariant_of-result g c =
       spaces = c.requires.space.size;
       last_id = lawful.last_id;
       named = c.count_names-names.ensures;
-      contents = subst (λ (ends : JobEnds). HasContents m r.next_id r.settings ends) (sym c.ends_of-ends.ensures)
-          (contents_found n m r c.requires.sorted volume c.requires.records);
+      contents = contents_found n m r c.requires.sorted volume c.requires.records;
       held = held_found n m c.args.found.space volume c.requires.space;
       tired = λ worn. absurd (cc);
       few = λ runs fresh. omega (arith, c.requires.staged);
@@ -39,11 +32,9 @@ returns-clause-rules g c =
     let n = c.args.clusters in
     let m = c.args.log.map in
     let r = c.args.found.records in
-    subst (λ (ends : JobEnds). RulesHold n (with_ends ends (typed_of m))) (sym c.ends_of-ends.ensures)
-    (rules_found n m r c.requires.sorted c.requires.volume c.requires.records)
+    rules_found n m r c.requires.sorted c.requires.volume c.requires.records
 
 pub returns-clause-due : goal.returns-clause-due
 returns-clause-due g c =
-    let none = ap (λ (ends : JobEnds). unstaged_in ends) c.ends_of-ends.ensures
-    ∙ none_unstaged c.args.found.records.results in
+    let none = none_left c.args.found.records.results in
     omega (arith, none, c.requires.staged)

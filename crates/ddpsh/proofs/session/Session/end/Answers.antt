@@ -1,5 +1,7 @@
-use Rattle.std.proofs.Common.{Ok, Err, refl}
-use Rattle.ddpsh.proofs.CallLaws.{Flushed}
+use Rattle.std.proofs.Common.{◌≡◌, ◌⊎◌, Ok, Err, refl}
+use Rattle.plain_volume.specs.declared.call.Fault.{Fault}
+use Rattle.plain_volume.specs.declared.call.Fault.TheVariants as fault
+use Rattle.ddpsh.proofs.CallLaws.{Flushed, flush_faults}
 use Rattle.ddpsh.proofs.LineOfLaws.{end_ok, end_refused_as}
 use Rattle.ddpsh.proofs.session.Session.end.Goals as goal
 
@@ -16,8 +18,13 @@ returns-in-Ok-clause-told g c w kept =
     } in
     end_ok c.args.self.now _ did refl (rw c.ack_now.ensures refl)
 
+pub ended_by-requires : goal.ended_by-requires
+ended_by-requires g c = flush_faults c.args.self.now.volume c.flush.new.self c.in-Err.fault c.flush.ensures.want c.in-Err.ensures.reply
+
 pub returns-in-Err-clause-told : goal.returns-in-Err-clause-told
 returns-in-Err-clause-told g c w kept =
+    let may : (c.in-Err.fault ≡ fault.Failed) ⊎ (c.in-Err.fault ≡ fault.Worn) =
+    flush_faults c.args.self.now.volume c.flush.new.self c.in-Err.fault c.flush.ensures.want c.in-Err.ensures.reply in
     let did : Flushed c.args.self.now.volume c.flush.new.self (Err c.in-Err.fault) = record {
       replied = c.in-Err.ensures.reply;
       left = c.in-Err.ensures.left;
@@ -27,4 +34,4 @@ returns-in-Err-clause-told g c w kept =
       endures = c.flush.ensures.endures;
       adds = c.flush.ensures.adds;
     } in
-    end_refused_as c.args.self.now _ c.in-Err.fault c.ended_by.result c.ended_by.ensures did refl refl
+    end_refused_as c.args.self.now _ c.in-Err.fault c.ended_by.result may c.ended_by.ensures did refl refl

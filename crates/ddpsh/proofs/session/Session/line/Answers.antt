@@ -1,11 +1,16 @@
 use Rattle.std.proofs.Common.{◌∙◌, ap, Some, Err, true, false}
 use Rattle.cmdlet_line.specs.Lines.{line_of}
-use Rattle.ddpsh.proofs.LineOfLaws.{stop_as, done_as, cut_as}
+use Rattle.ddpsh.proofs.LineOfLaws.{stop_as, done_as, cut_as, fits_as}
 use Rattle.ddpsh.proofs.ClockLaws.{clock_as, clock_then, acked_second, gone_second, gone_over, stays_open, test_as, or_left}
 use Rattle.volume_core.specs.Volumes.{stopped}
 use Rattle.ddpsh.specs.Answers.{makes_none, may_stop}
 use Rattle.ddpsh.specs.Sessions.{let_go}
 use Rattle.ddpsh.proofs.session.Session.line.Goals as goal
+
+pub attempt-requires-clause-fits : goal.attempt-requires-clause-fits
+attempt-requires-clause-fits g c =
+    fits_as c.parse-asked.result (line_of c.args.self.now.text c.args.line.now) c.parse-asked.ensures
+    (c.what_is_asked_is_in_range.ensures c.args.self.now.text c.args.line.now)
 
 pub returns-in-Err-clause-told : goal.returns-in-Err-clause-told
 returns-in-Err-clause-told g c w kept =

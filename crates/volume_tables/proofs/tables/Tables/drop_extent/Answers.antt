@@ -6,6 +6,8 @@ use Rattle.table_records.specs.Keys.{pair_cmp}
 use Rattle.table_records.specs.Tables.{extent_codec}
 use Rattle.volume_inside.specs.Changes.{keep_extents}
 use Rattle.volume_inside.specs.Layout.{first_data_cluster}
+use Rattle.volume_inside.specs.Named.{extent_clusters}
+use Rattle.volume_inside.proofs.Naming.{extents_parted}
 use Rattle.volume_inside.specs.Typed.{Typed, typed_of}
 use Rattle.volume_tables.specs.Clusters.{AreHeld, all_deferred}
 use Rattle.volume_tables.specs.Dropped.{extents_in, AreUsedOnce}
@@ -43,7 +45,7 @@ invariant_of-self-clause-spaces g c =
     let t = c.args.self.now in
     ap (λ (xs : List State). length xs) c.defer_range.ensures
     ∙ all_length c.first_cluster-first.result
-    (extents_in c.args.from c.args.to (typed_of (log_now t.log)).extents) t.space ∙ t.spaces
+    (extent_clusters (extents_in c.args.from c.args.to (typed_of (log_now t.log)).extents)) t.space ∙ t.spaces
 
 pub invariant_of-self-clause-contents : goal.invariant_of-self-clause-contents
 invariant_of-self-clause-contents g c =
@@ -61,8 +63,8 @@ invariant_of-self-clause-held g c =
     let tables = extents_dropped (log_now t.log)
     (log_now c.drop_range.new.log) c.args.from c.args.to c.drop_range.ensures.dropped in
     subst (λ (p : List State × Typed). AreHeld t.clusters p.0 p.1) (λ i. (sym space i, sym tables i))
-    (held_dropped t.clusters t.space (typed_of (log_now t.log)) t.held t.spaces
-    (λ k. is_in_range pair_cmp c.args.from c.args.to k))
+    (held_dropped t.clusters t.space (typed_of (log_now t.log)) t.held t.spaces _ _
+    (extents_parted (typed_of (log_now t.log)) (λ k. is_in_range pair_cmp c.args.from c.args.to k)))
 
 pub invariant_of-self-clause-few : goal.invariant_of-self-clause-few
 invariant_of-self-clause-few g c running worn =
@@ -94,7 +96,7 @@ returns g c = record {
       drop_leaves t _ c.drop_range.ensures.quiet refl
       (subst (λ (xs : List State). IsNoFreer t.space xs) (sym c.defer_range.ensures)
       (all_no_freer c.first_cluster-first.result
-      (extents_in c.args.from c.args.to (typed_of (log_now t.log)).extents) t.space))
+      (extent_clusters (extents_in c.args.from c.args.to (typed_of (log_now t.log)).extents)) t.space))
       refl refl (g.met.D.Disk.same_self t.log.disk);
   states =
       let t = c.args.self.now in

@@ -1,5 +1,5 @@
 use Rattle.std.proofs.Common.{rules, ◌≡◌, ◌+◌, sym, subst, arith, refl}
-use Rattle.std.specs.Prelude.{Result, Err}
+use Rattle.std.specs.Prelude.{Result, Ok, Err}
 use Rattle.plain_volume.specs.declared.call.Fault.{Fault}
 use Rattle.table_records.specs.Tables.{settings_codec}
 use Rattle.volume_inside.specs.Typed.{typed_of}
@@ -18,18 +18,21 @@ use Rattle.volume_tables.proofs.Counts.{entry_named}
 use Rattle.volume_tables.proofs.WellFormed.{apart}
 use Rattle.volume_tables.proofs.tables.Tables.put_settings.Goals as goal
 
-pub returns-in_err-put_settings-clause-set : goal.returns-in_err-put_settings-clause-set
-returns-in_err-put_settings-clause-set g c =
+pub returns-in_err-put_settings : goal.returns-in_err-put_settings
+returns-in_err-put_settings g c =
     let t = c.args.self.now in
     let refused : c.from_residual.result ≡ Err c.in_err-put_settings.field-0.0 = search rules in
-    subst (λ (r : Result (Unit {0}) Fault). IsResized (settings_size_of (tables_now t))
-    (settings_size c.args.settings) t.clusters t.log c.put_settings.new.log r) (sym refused)
-    (resized t c.put_settings.new.log c.args.settings _ c.in_err-put_settings.ensures)
-
-pub returns-in_err-put_settings-clause-leaves : goal.returns-in_err-put_settings-clause-leaves
-returns-in_err-put_settings-clause-leaves g c =
-    quiet_leaves c.args.self.now _ c.put_settings.ensures.quiet refl refl refl refl
-    (g.met.D.Disk.same_self c.args.self.now.log.disk)
+    record {
+      ok = search rules;
+      err = search rules;
+      set = subst (λ (r : Result (Unit {0}) Fault). IsResized (settings_size_of (tables_now t))
+          (settings_size c.args.settings) t.clusters t.log c.put_settings.new.log r) (sym refused)
+          (resized t c.put_settings.new.log c.args.settings (Err c.in_err-put_settings.field-0.0)
+          c.in_err-put_settings.ensures);
+      leaves =
+          quiet_leaves t _ c.put_settings.ensures.quiet refl refl refl refl (g.met.D.Disk.same_self t.log.disk);
+      states = refl;
+    }
 
 pub invariant_of-self-2-clause-contents : goal.invariant_of-self-2-clause-contents
 invariant_of-self-2-clause-contents g c =
@@ -54,22 +57,23 @@ invariant_of-self-2-clause-few g c running worn =
     entry_few settings_codec c.args.self.now c.put_settings.new.log tt c.args.settings c.put_settings.result p
     (6 + settings_size c.args.settings) (omega (arith, key, value)) c.requires.room
 
-pub returns-clause-ok : goal.returns-clause-ok
-returns-clause-ok g c =
-    let t = c.args.self.now in
-    entry_now settings_codec t c.put_settings.new.log tt c.args.settings _ c.in_ok-put_settings.ensures
-    (with_settings c.args.settings) (λ x. refl)
-    (settings_put (log_now t.log) (log_now c.put_settings.new.log) (as_true t.contents.sorted) c.args.settings)
-
-pub returns-clause-set : goal.returns-clause-set
-returns-clause-set g c = resized c.args.self.now c.put_settings.new.log c.args.settings _ c.in_ok-put_settings.ensures
-
-pub returns-clause-leaves : goal.returns-clause-leaves
-returns-clause-leaves g c =
-    quiet_leaves c.args.self.now _ c.put_settings.ensures.quiet refl refl refl refl
-    (g.met.D.Disk.same_self c.args.self.now.log.disk)
-
 pub invariant_of-self-2-clause-named : goal.invariant_of-self-2-clause-named
 invariant_of-self-2-clause-named g c =
     entry_named c.args.self.now c.put_settings.new.log settings_codec
     (apart 9 2 refl) tt c.args.settings c.put_settings.result c.put_settings.ensures
+
+pub returns : goal.returns
+returns g c =
+    let t = c.args.self.now in
+    record {
+      ok =
+          entry_now settings_codec t c.put_settings.new.log tt c.args.settings _ c.in_ok-put_settings.ensures
+          (with_settings c.args.settings) (λ x. refl)
+          (settings_put (log_now t.log) (log_now c.put_settings.new.log) (as_true t.contents.sorted) c.args.settings);
+      err = search rules;
+      set = resized t c.put_settings.new.log c.args.settings (Ok c.in_ok-put_settings.field-0)
+          c.in_ok-put_settings.ensures;
+      leaves =
+          quiet_leaves t _ c.put_settings.ensures.quiet refl refl refl refl (g.met.D.Disk.same_self t.log.disk);
+      states = refl;
+    }

@@ -10,6 +10,7 @@ use Rattle.volume_inside.specs.Typed.{typed_of}
 use Rattle.volume_tables.specs.Log.{log_state}
 use Rattle.volume_tables.specs.Tables.{disk_of, area_of, with_ends}
 use Rattle.volume_tables.proofs.Staged.{answer_ok}
+use Rattle.volume_tables.proofs.Staged.{data_handed}
 use Rattle.volume_tables.proofs.tables.Tables.read_run.Goals as goal
 
 pub returns-clause-bytes : goal.returns-clause-bytes
@@ -53,3 +54,6 @@ returns-clause-reads g c =
       checkpoint = ap (λ (m : Map). checkpoint_length m) s.now;
       running = s.stopped;
     }
+
+pub of_log-requires : goal.of_log-requires
+of_log-requires g c = data_handed _ c.read_data.result c.read_data.ensures.failed

@@ -14,7 +14,7 @@ pub returns-in_err-write_run-clause-same : goal.returns-in_err-write_run-clause-
 returns-in_err-write_run-clause-same g c =
     let t = c.args.self.now in
     let w = c.write_run.ensures in
-    ap (λ (q : Typed). inside_at q (disk_of c.write_run.new.self).image) w.now
+    ap (λ (q : Typed). inside_at q (disk_of c.write_run.new.self).image) w.writes.now
     ∙ run_stays t c.free_run-run.result c.free_run-run.ensures.some c.free_run-run.ensures.free (tables_now t)
     (now_apart t) (disk_of c.write_run.new.self).image w.image
 
@@ -27,7 +27,7 @@ pub returns-clause-same : goal.returns-clause-same
 returns-clause-same g c =
     let t = c.args.self.now in
     let w = c.write_run.ensures in
-    ap (λ (q : Typed). inside_at q (disk_of c.write_run.new.self).image) w.now
+    ap (λ (q : Typed). inside_at q (disk_of c.write_run.new.self).image) w.writes.now
     ∙ run_stays t c.free_run-run.result c.free_run-run.ensures.some c.free_run-run.ensures.free (tables_now t)
     (now_apart t) (disk_of c.write_run.new.self).image w.image
 

@@ -1,4 +1,4 @@
-use Rattle.std.proofs.Common.{◌≡◌, ◌≤◌, ◌+◌, ◌-◌, ◌*◌, ℕ, length, sym, ◌∙◌, ap, subst, arith, refl}
+use Rattle.std.proofs.Common.{◌≡◌, ◌≤◌, ◌+◌, ◌-◌, ◌*◌, ℕ, length, sym, ◌∙◌, ap, subst, arith, refl, rules}
 use Rattle.std.specs.Prelude.{Result, OnOk}
 use Rattle.std.proofs.lemmas.Result.{on_ok_weaker}
 use Rattle.vdisk.specs.Ranges.{part, part_written}
@@ -8,6 +8,7 @@ use Rattle.volume_tables.specs.Log.{log_state}
 use Rattle.volume_tables.specs.Tables.{disk_of}
 use Rattle.volume_tables.proofs.Staged.{answer_ok}
 use Rattle.volume_tables.proofs.Runs.{run_keeps}
+use Rattle.volume_tables.proofs.Staged.{data_handed}
 use Rattle.volume_tables.proofs.tables.Tables.write_run.Goals as goal
 
 pub returns-clause-written : goal.returns-clause-written
@@ -31,27 +32,39 @@ returns-clause-written g c stored is =
     (sym c.of_log.ensures)
     (answer_ok _ c.write_data.result written)
 
-pub returns-clause-leaves : goal.returns-clause-leaves
-returns-clause-leaves g c =
+pub returns-clause-writes : goal.returns-clause-writes
+returns-clause-writes g c =
     let t = c.args.self.now in
     let s = c.write_data.ensures in
     record {
-      clusters = refl;
-      tables = λ stored is. record {
-        map = is.map;
-        log = s.log is.map is.log;
-        is = is.is;
-        stored_apart = is.stored_apart;
-        free = is.free;
-      };
-      moments = λ stored w is kept. run_keeps t c.args.run c.requires.some c.requires.free stored w
-          (log_state c.write_data.new.self)
-          (subst (λ (n : ℕ). TornWithin (4096 * c.args.run.first) n (disk_of t) (log_state c.write_data.new.self))
-          c.requires.whole s.torn) is kept;
-      same = s.same;
-      later = s.later;
-      place = s.place.next;
-      epoch = s.place.epoch;
-      ends = refl;
-      worn = refl;
+      now = search rules;
+      states = refl;
+      leaves =
+          record {
+            clusters = refl;
+            tables = λ stored is. record {
+              map = is.map;
+              log = s.log is.map is.log;
+              is = is.is;
+              stored_apart = is.stored_apart;
+              free = is.free;
+            };
+            moments = λ stored w is kept. run_keeps t c.args.run c.requires.some c.requires.free stored w
+                (log_state c.write_data.new.self)
+                (subst (λ (n : ℕ). TornWithin (4096 * c.args.run.first) n (disk_of t) (log_state c.write_data.new.self))
+                c.requires.whole s.torn) is kept;
+            same = s.same;
+            later = s.later;
+            place = s.place.next;
+            epoch = s.place.epoch;
+            ends = refl;
+            worn = refl;
+          };
+      numbers = search rules;
+      runs = search rules;
+      stops = search rules;
+      failed = search rules;
     }
+
+pub of_log-requires : goal.of_log-requires
+of_log-requires g c = data_handed _ c.write_data.result c.write_data.ensures.failed
