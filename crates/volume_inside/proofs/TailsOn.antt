@@ -1,5 +1,6 @@
 -- How the tails of containers stay free: from a commit on, over clusters that are set and bytes that are used.
-use Rattle.std.specs.Prelude.{◌≡◌, ◌⊎◌, ◌≤◌, ◌+◌, ◌*◌, ◌-◌, ℕ, true, false, cond, List, [], ◌∷◌, ◌++◌, Option, Some}
+use Rattle.std.specs.Prelude.{◌≡◌, ◌⊎◌, ◌≤◌, ◌+◌, ◌*◌, ◌-◌, ℕ, Bool, true, false, cond, min, List, [], ◌∷◌, ◌++◌}
+use Rattle.std.specs.Prelude.{Option, Some, None}
 use Rattle.std.specs.Prelude.{refl}
 use Rattle.std.proofs.Common.{◌∙◌, ap, sym, subst, arith, inl, inr}
 use Rattle.std.specs.declared.cmp.Ordering.{Ordering}
@@ -7,7 +8,8 @@ use Rattle.std.specs.declared.cmp.Ordering.TheVariants.{Less, Equal, Greater}
 use Rattle.std.specs.Ordering.{nat_cmp, is_eq}
 use Rattle.std.specs.Cmp.{nat_cmp_total}
 use Rattle.std.specs.FinMap.{find, put, nat_cmp-IsAntisymmetric}
-use Rattle.std.specs.FinMap.Entries.{find-put}
+use Rattle.std.specs.FinMap.Entries.{find-put, find-where_key, where_key}
+use Rattle.std.proofs.lemmas.Map.Lookups.{exact_pairs, exact_unsigned}
 use Rattle.table_records.specs.Keys.{pair_cmp}
 use Rattle.table_records.specs.Orders.{pair_total}
 use Rattle.table_records.specs.declared.records.Extent.{Extent}
@@ -19,7 +21,7 @@ use Rattle.volume_inside.specs.Lists.{IsOnce}
 use Rattle.volume_inside.specs.Pages.{used_of, used_or_none, page_length, page_clusters}
 use Rattle.volume_inside.specs.Ranges.{IsApart}
 use Rattle.volume_inside.specs.Named.{named, extent_clusters, clusters_of, IsUnnamed}
-use Rattle.volume_inside.specs.Changes.{with_cluster, with_container}
+use Rattle.volume_inside.specs.Changes.{with_cluster, with_container, keep_clusters, keep_containers}
 use Rattle.volume_inside.specs.Tails.{AreTailsFree}
 use Rattle.volume_inside.proofs.BaseTails.{tail_apart}
 
@@ -59,11 +61,15 @@ page_in_data n k cluster (e ∷ es) in_data found =
       | false ↦ λ at. page_in_data n k cluster es in_data.1 at
     ] found
 
+pub page_is_data : (n : ℕ) (t : Typed) (k : PageKey) (cluster : ℕ) → AreData n (clusters_of t)
+    → find pair_cmp k t.chunks.clusters ≡ Some cluster → IsDataCluster n cluster
+page_is_data n t k cluster in_data found =
+    page_in_data n k cluster t.chunks.clusters (back_is_data n t.chunks.clusters t.extents in_data) found
+
 -- once all is stored, nothing behind what is used is named
 pub tails_stored : (n : ℕ) (t : Typed) → AreData n (clusters_of t) → IsOnce (clusters_of t) → AreTailsFree t t.chunks
 tails_stored n t in_data once = record {
-  tail = λ k cluster found. (let pages_in_data = back_is_data n t.chunks.clusters t.extents in_data in
-      let lies = page_in_data n k cluster t.chunks.clusters pages_in_data found in
+  tail = λ k cluster found. (let lies = page_is_data n t k cluster in_data found in
       let used = page_length t.chunks.containers k in
       tail_apart t.extents t.chunks.containers t.chunks.clusters k cluster used (4096 - used) once found
       (omega (arith, lies.from_first)) (omega arith) (omega arith));
@@ -122,3 +128,42 @@ tails_with_container stored now id new free more = record {
 
     grown : (k : PageKey) → page_length now.chunks.containers k ≤ page_length (put nat_cmp id new now.chunks.containers) k
     grown k = let up = used_put k.0 in omega (arith, up)
+
+-- ---- pages are dropped, and containers that have none
+
+pub tails_without_pages : (stored now : Typed) (test : PageKey → Bool) → AreTailsFree stored now.chunks
+    → AreTailsFree stored (keep_clusters test now).chunks
+tails_without_pages stored now test free = record {
+  tail = λ k cluster found.
+      free.tail k cluster (kept k cluster (sym (find-where_key pair_cmp test k (alike k) now.chunks.clusters) ∙ found));
+}
+  where
+    alike : (k x : PageKey) → pair_cmp k x ≡ Equal → test x ≡ test k
+    alike k x tie = ap test (sym (exact_pairs nat_cmp nat_cmp exact_unsigned exact_unsigned k x tie))
+
+    kept : (k : PageKey) (cluster : ℕ) → cond (test k) (find pair_cmp k now.chunks.clusters) None ≡ Some cluster
+        → find pair_cmp k now.chunks.clusters ≡ Some cluster
+    kept k cluster = elim (test k) as (λ b. cond b (find pair_cmp k now.chunks.clusters) None ≡ Some cluster
+        → find pair_cmp k now.chunks.clusters ≡ Some cluster) [
+          | true ↦ λ at. at
+          | false ↦ λ at. absurd (let clash : None ≡ Some cluster = at in cc)
+        ]
+
+module _ (stored now : Typed) (test : ℕ → Bool)
+    (bare : (k : PageKey) → test k.0 ≡ false → find pair_cmp k now.chunks.clusters ≡ None) where
+  used_kept : (c : ℕ) → test c ≡ true
+      → used_of (where_key nat_cmp test now.chunks.containers) c ≡ used_of now.chunks.containers c
+  used_kept c stays = ap used_or_none
+      (find-where_key nat_cmp test c (λ x tie. ap test (sym (nat_cmp-IsAntisymmetric c x tie))) now.chunks.containers
+      ∙ ap (λ (b : Bool). cond b (find nat_cmp c now.chunks.containers) None) stays)
+
+  pub tails_without_containers : AreTailsFree stored now.chunks → AreTailsFree stored (keep_containers test now).chunks
+  tails_without_containers free = record { tail = λ k cluster found. by k cluster found (test k.0) refl }
+    where
+      by : (k : PageKey) (cluster : ℕ) → find pair_cmp k now.chunks.clusters ≡ Some cluster → (b : Bool) → test k.0 ≡ b
+          → IsApart (4096 * cluster + page_length (where_key nat_cmp test now.chunks.containers) k)
+          (4096 - page_length (where_key nat_cmp test now.chunks.containers) k) (named stored)
+      by k cluster found true is = subst (λ (u : ℕ).
+          IsApart (4096 * cluster + min (u - 4096 * k.1) 4096) (4096 - min (u - 4096 * k.1) 4096) (named stored))
+          (sym (used_kept k.0 is)) (free.tail k cluster found)
+      by k cluster found false is = absurd (let clash : None ≡ Some cluster = sym (bare k is) ∙ found in cc)

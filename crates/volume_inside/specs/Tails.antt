@@ -1,5 +1,5 @@
 -- Which bytes of containers may be written: those behind what is used, which the stored tables do not name.
-use Rattle.std.specs.Prelude.{◌≡◌, ◌+◌, ◌*◌, ◌-◌, ℕ, Some}
+use Rattle.std.specs.Prelude.{◌≡◌, ◌≤◌, ◌+◌, ◌*◌, ◌-◌, ℕ, Some}
 use Rattle.std.specs.FinMap.{find}
 use Rattle.table_records.specs.Keys.{pair_cmp}
 use Rattle.volume_inside.specs.ChunkTables.{ChunkTables, PageKey}
@@ -13,3 +13,9 @@ use Rattle.volume_inside.specs.Named.{named}
 pub record AreTailsFree (stored : Typed) (now : ChunkTables) : Type 0 where
   pub tail : (k : PageKey) (cluster : ℕ) → find pair_cmp k now.clusters ≡ Some cluster
       → IsApart (4096 * cluster + page_length now.containers k) (4096 - page_length now.containers k) (named stored)
+
+-- a place in a cluster of a container that is behind what is used of it
+pub record IsBehind (cluster from : ℕ) (t : ChunkTables) : Type 0 where
+  pub key : PageKey
+  pub names : find pair_cmp key t.clusters ≡ Some cluster
+  pub behind : page_length t.containers key ≤ from

@@ -1,5 +1,6 @@
 // Laws of rows, copies and bases, each the contract of an empty function.
-ghost use Rattle.std.specs.Prelude.{◌≡◌, ◌≤◌, ◌<◌, ◌+◌, ◌*◌, ◌/◌, ◌%◌, ℕ, List, length, get_or, Some, None, IsSome};
+ghost use Rattle.std.specs.Prelude.{◌≡◌, ◌≤◌, ◌<◌, ◌+◌, ◌*◌, ◌/◌, ◌%◌, ℕ, Bool, false, List, length, get_or};
+ghost use Rattle.std.specs.Prelude.{Some, None, IsSome};
 ghost use Rattle.std.specs.Ordering.{nat_cmp};
 ghost use Rattle.std.specs.FinMap.{find};
 ghost use Rattle.sha2.specs.Sha256.{sha256};
@@ -20,7 +21,7 @@ ghost use Rattle.volume_inside.specs.ChunkChanges.{Extends, IsRedirected, IsDama
 ghost use Rattle.volume_inside.specs.Damage.{IsVolumeFrom};
 ghost use Rattle.volume_inside.specs.Entries.{Each};
 ghost use Rattle.volume_inside.specs.Inside.{Inside};
-ghost use Rattle.volume_inside.specs.Changes.{with_block, with_cluster, with_container};
+ghost use Rattle.volume_inside.specs.Changes.{with_block, with_cluster, with_container, keep_clusters, keep_containers};
 ghost use Rattle.volume_inside.specs.View.{cell, view};
 ghost use Rattle.volume_inside.specs.ChunkRules.{MapRowHolds, MapsHold};
 ghost use Rattle.volume_inside.specs.Joins.{HasCover, IsJoined};
@@ -100,7 +101,8 @@ pub fn tails_are_free_after_a_commit()
 {}
 
 /// A write behind what is used of a container touches nothing that the stored tables name. So it goes on over a cluster
-/// that they do not name and that is set, and over a container of which as many bytes are used, or more.
+/// that they do not name and that is set, over a container of which as many bytes are used, or more, and over pages that
+/// are dropped and containers that have none.
 pub fn tails_go_on()
     ensures write { (stored now : Typed) (k : PageKey) (cluster from n : ℕ) → AreTailsFree stored now.chunks →
         find pair_cmp k now.chunks.clusters ≡ Some cluster → page_length now.chunks.containers k ≤ from →
@@ -109,4 +111,9 @@ pub fn tails_go_on()
         IsUnnamed cluster stored → AreTailsFree stored (with_cluster k cluster now).chunks }
     ensures used { (stored now : Typed) (id : ℕ) (new : Container) → AreTailsFree stored now.chunks →
         used_of now.chunks.containers id ≤ new.used → AreTailsFree stored (with_container id new now).chunks }
+    ensures pages { (stored now : Typed) (test : PageKey → Bool) → AreTailsFree stored now.chunks →
+        AreTailsFree stored (keep_clusters test now).chunks }
+    ensures containers { (stored now : Typed) (test : ℕ → Bool) →
+        ((k : PageKey) → test k.0 ≡ false → find pair_cmp k now.chunks.clusters ≡ None) →
+        AreTailsFree stored now.chunks → AreTailsFree stored (keep_containers test now).chunks }
 {}

@@ -19,11 +19,13 @@ use Rattle.volume_inside.specs.Named.{clusters_of}
 use Rattle.volume_inside.specs.Rules.{IsVolume}
 use Rattle.volume_inside.specs.Shows.{Shows, Kept}
 use Rattle.volume_inside.specs.Superblock.{IsSuperblock, HasSuperblock}
+use Rattle.volume_inside.specs.Tails.{AreTailsFree}
 use Rattle.volume_inside.specs.Typed.{Typed, typed_of}
 use Rattle.volume_inside.specs.declared.mount_fault.MountFault.{MountFault}
 use Rattle.volume_inside.specs.declared.mount_fault.MountFault.TheVariants.{Failed, Memory}
 use Rattle.volume_inside.proofs.Freshness.{fresh_typed, fresh_volume, fresh_shows}
 use Rattle.volume_inside.proofs.Journals.{journal_apart}
+use Rattle.volume_tables.specs.Log.{log_now}
 use Rattle.volume_tables.specs.Tables.{area_of, disk_of, IsTables}
 use Rattle.volume_tables.specs.declared.tables.Tables.{Tables}
 use Rattle.vdisk.specs.Disk.{DiskState, ChangedWithin}
@@ -103,13 +105,15 @@ committed_shows n image c has size made =
     (made.change.size ∙ size) made.spells (let v = fresh_volume n in v.spelled) fresh_typed
 
 module _ {D : Type 0} {d : Ghosts D} (t : Tables D d) (n : ℕ) (is : t.clusters ≡ n) where
-  pub formatted_tables : IsLog t.log fresh_map → IsTables t fresh_tables
-  formatted_tables log = record {
+  pub formatted_tables : typed_of (log_now t.log) ≡ fresh_tables → IsLog t.log fresh_map → IsTables t fresh_tables
+  formatted_tables now log = record {
     map = fresh_map;
     log = log;
     is = fresh_typed;
     stored_apart = journal_apart t.clusters fresh_tables tt;
     free = λ k free. tt;
+    tails = subst (λ (q : Typed). AreTailsFree fresh_tables q.chunks) (sym now)
+        (record { tail = λ k cluster found. absurd (cc) });
   }
 
   pub formatted_kept : (image : List ℕ) → HasSuperblock n image → length image ≡ 4096 * n

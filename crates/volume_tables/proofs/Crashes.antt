@@ -19,9 +19,11 @@ use Rattle.volume_inside.specs.Ranges.{IsApart}
 use Rattle.volume_inside.specs.Named.{named, clusters_of, IsUnnamed}
 use Rattle.volume_inside.specs.Lists.{IsOut}
 use Rattle.volume_inside.specs.Rules.{IsVolume}
+use Rattle.volume_inside.specs.Tails.{AreTailsFree}
 use Rattle.volume_inside.specs.Shows.{Shows, Kept, ShowsEither, view_at}
 use Rattle.volume_inside.specs.Crash.{data_keeps, commit_keeps, settled_kept}
 use Rattle.volume_inside.proofs.Spaces.{unnamed}
+use Rattle.volume_inside.proofs.TailsOn.{tails_stored}
 use Rattle.cluster_space.specs.declared.state.State.{State}
 use Rattle.cluster_space.specs.declared.state.State.TheVariants.{Free}
 use Rattle.cluster_space.specs.States.{IsIn}
@@ -147,6 +149,8 @@ module _ {D : Type 0} {d : Ghosts D} (t : Tables D d) (l : MetaLog D d) (quiet :
         (sym clusters) is.stored_apart;
     free = subst (λ (p : ℕ × List State). (k : ℕ) → IsIn p.1 k Free
         → IsOut (first_data_cluster p.0 + k) (clusters_of stored)) (λ i. (sym clusters i, sym space i)) is.free;
+    tails = subst (λ (q : Typed). AreTailsFree stored q.chunks)
+        (sym (ap (λ (x : MetaLog D d). typed_of (log_now x)) log ∙ all)) is.tails;
   }
 
 -- what is stored after a commit that answered Ok
@@ -161,4 +165,6 @@ module _ {D : Type 0} {d : Ghosts D} (t s : Tables D d) (m : Map) where
         (held_same s.clusters s.space (typed_of (log_now s.log)) s.held (tables_now s) refl));
     free = λ k at. subst (λ (q : Typed). IsOut (first_data_cluster s.clusters + k) (clusters_of q)) now
         (s.held.1.free_now k at);
+    tails = subst (λ (q : Typed). AreTailsFree q (tables_now s).chunks) now
+        (tails_stored s.clusters (tables_now s) s.held.0 s.held.1.once);
   }

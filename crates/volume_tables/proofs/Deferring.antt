@@ -118,29 +118,3 @@ pub held_dropped : (n : ℕ) (states : List State) (t : Typed) → AreHeld n sta
 held_dropped n states t held size q gone p =
     held_all_deferred n q gone states (gone_used n states t held size (clusters_of q) gone p)
     (parted_apart p held.1.once) (held_parted n states t held q gone p)
-
-module _ {D : Type 0} {d : Ghosts D} where
-  -- a call that stages and frees no cluster
-  pub drop_leaves : (t s : Tables D d) → IsQuiet t.log s.log → s.clusters ≡ t.clusters → IsNoFreer t.space s.space
-      → s.worn ≡ t.worn → s.ends ≡ t.ends
-      → d.is_same t.log.disk t.log.disk → Leaves t s
-  drop_leaves t s quiet clusters fewer worn ends self = record {
-    clusters = clusters;
-    tables = λ stored is. record {
-      map = is.map;
-      log = quiet.log is.map is.log;
-      is = is.is;
-      stored_apart = subst (λ (n : ℕ). IsApart journal_at (2 * half_bytes n) (named stored))
-          (sym clusters) is.stored_apart;
-      free = λ k at. subst (λ (n : ℕ). IsOut (first_data_cluster n + k) (clusters_of stored)) (sym clusters)
-          (is.free k (fewer k at));
-    };
-    moments = λ stored w is kept. subst (λ (x : D). Keeps (disk_of t) (d.state x) (Shows (area_of t) w))
-        (sym quiet.disk) (keeps_start (disk_of t) (Shows (area_of t) w) kept);
-    same = subst (λ (x : D). d.is_same t.log.disk x) (sym quiet.disk) self;
-    later = subst (λ (x : D). (disk_of t).faults ≤ (d.state x).faults) (sym quiet.disk) (omega arith);
-    place = quiet.place.next;
-    epoch = quiet.place.epoch;
-    ends = ends;
-    worn = worn;
-  }

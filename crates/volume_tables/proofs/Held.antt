@@ -1,9 +1,10 @@
 -- The clusters that the tables now name, as they are taken, named, given up and released.
 use Rattle.std.specs.Prelude.{◌≡◌, ◌⊎◌, ◌<◌, ◌+◌, ◌-◌, ◌*◌, ℕ, List, length, map, T, Option, Some, refl}
-use Rattle.std.proofs.Common.{sym, ◌∙◌, ap, subst, inl, inr, arith}
+use Rattle.std.proofs.Common.{sym, ◌∙◌, ap, subst, inl, inr, arith, length-set}
+use Rattle.std.proofs.lemmas.List.{get_or-set_same}
 use Rattle.std.specs.FinMap.{find, is_sorted}
 use Rattle.cluster_space.specs.declared.state.State.{State}
-use Rattle.cluster_space.specs.declared.state.State.TheVariants.{Used}
+use Rattle.cluster_space.specs.declared.state.State.TheVariants.{Free, Used}
 use Rattle.cluster_space.specs.States.{released}
 use Rattle.table_records.specs.Keys.{pair_cmp}
 use Rattle.table_records.specs.declared.records.Extent.{Extent}
@@ -19,7 +20,7 @@ use Rattle.volume_inside.proofs.Spaces.{spaced_take, spaced_defer, spaced_commit
 use Rattle.volume_inside.proofs.SpaceChanges.{spaced_put, spaced_parted}
 use Rattle.volume_inside.proofs.Naming.{IsPutIn, IsParted, put_same, put_data, parted_data, extent_put_in, page_put_in}
 use Rattle.volume_inside.proofs.Journals.{journal_apart}
-use Rattle.volume_tables.specs.Clusters.{HasState, AreHeld, IsNoOthers, IsNoOtherPage, cluster_at, used_at, deferred_at}
+use Rattle.volume_tables.specs.Clusters.{HasState, AreHeld, IsNoOthers, cluster_at, used_at, deferred_at}
 
 -- what holds of tables alone, whichever are stored
 own_space : (first : ℕ) (states : List State) (s t : Typed) → IsSpaced first states s t → IsSpaced first states t t
@@ -98,14 +99,25 @@ module _ (n : ℕ) (states : List State) (t : Typed) (held : AreHeld n states t)
       by (inl (o, found, same)) = inl (ap cluster_at found ∙ ap (λ (c : ℕ). Some c) same)
       by (inr out) = inr out
 
-  -- a page over one
-  pub held_page : (k : PageKey) (c : ℕ) → T (is_sorted pair_cmp t.chunks.clusters) → c < n → HasState n states Used c
-      → IsNoOtherPage k c t → AreHeld n states (with_cluster k c t)
-  held_page k c sorted below has alone = held_put (with_cluster k c t) (find pair_cmp k t.chunks.clusters) c
-      (page_put_in t k c sorted) below has alone
-
   pub held_released : AreHeld n (map released states) t
   held_released = (held.0, spaced_commit (first_data_cluster n) states t t held.1)
+
+-- a page over a free cluster, once it is used
+pub held_page : (n : ℕ) (states : List State) (t : Typed) → AreHeld n states t → (k : PageKey) (c : ℕ)
+    → T (is_sorted pair_cmp t.chunks.clusters) → c < n → HasState n states Free c
+    → AreHeld n (used_at n c states) (with_cluster k c t)
+held_page n states t held k c sorted below has =
+    let place : first_data_cluster n + (c - first_data_cluster n) ≡ c = omega (arith, has.from_first) in
+    held_put n (used_at n c states) t (held_used_at n states t held c has.is.within) (with_cluster k c t)
+    (find pair_cmp k t.chunks.clusters) c (page_put_in t k c sorted) below
+    (record {
+      from_first = has.from_first;
+      is = record {
+        within = omega (arith, has.is.within, length-set states (c - first_data_cluster n) Used);
+        state = get_or-set_same states (c - first_data_cluster n) Used Used has.is.within;
+      };
+    })
+    (inr (subst (λ (x : ℕ). IsOut x (clusters_of t)) place (held.1.free_now (c - first_data_cluster n) has.is)))
 
 -- tables with the same extents, which name the same clusters
 pub same_others : (k : FileBlock) (c : ℕ) (t q : Typed) → q.extents ≡ t.extents → clusters_of q ≡ clusters_of t

@@ -24,13 +24,16 @@ use Rattle.volume_inside.specs.Named.{named, clusters_of, extent_clusters}
 use Rattle.volume_inside.specs.Bases.{base_clusters}
 use Rattle.volume_inside.specs.Lists.{IsOut}
 use Rattle.volume_inside.specs.Shows.{Area, Shows, Kept}
+use Rattle.volume_inside.specs.Tails.{AreTailsFree}
 use Rattle.volume_inside.proofs.Spaces.{named_used, found_in}
 use Rattle.volume_inside.proofs.Naming.{IsPutIn, put_stood, put_gone}
 use Rattle.volume_tables.specs.Log.{log_state, log_now, log_place, log_epoch, IsLogOf}
 use Rattle.volume_tables.specs.Clusters.{HasState, AreHeld, used_at, deferred_at, deferred_unless, with_other}
 use Rattle.volume_tables.specs.Clusters.{with_spare}
-use Rattle.volume_tables.specs.Tables.{disk_of, area_of, states_of, tables_now, Leaves, IsSet, IsLogSet}
+use Rattle.volume_tables.specs.Staging.{IsQuiet}
+use Rattle.volume_tables.specs.Tables.{disk_of, area_of, states_of, tables_now, IsTables, Leaves, IsSet, IsLogSet}
 use Rattle.volume_tables.specs.declared.tables.Tables.{Tables}
+use Rattle.volume_tables.proofs.Tailed.{pages_of_tables, same_tails}
 
 used_is_not_free : Used ≢ Free
 used_is_not_free same = cc
@@ -172,6 +175,7 @@ module _ {D : Type 0} {d : Ghosts D} where
           (sym clusters) is.stored_apart;
       free = λ k at. subst (λ (n : ℕ). IsOut (first_data_cluster n + k) (clusters_of stored)) (sym clusters)
           (is.free k (fewer k (subst (λ (xs : List State). IsIn xs k Free) is_new at)));
+      tails = subst (λ (l : MetaLog D d). AreTailsFree stored (typed_of (log_now l)).chunks) (sym log) is.tails;
     };
     moments = λ stored w is kept. subst (λ (l : MetaLog D d). Keeps (disk_of a) (log_state l) (Shows (area_of a) w))
         (sym log) (keeps_start (disk_of a) (Shows (area_of a) w) kept);
@@ -182,6 +186,47 @@ module _ {D : Type 0} {d : Ghosts D} where
     ends = ends;
     worn = worn;
   }
+
+  -- a call that stages and frees no cluster, where the tails stay free
+  pub staged_leaves : (t s : Tables D d) → IsQuiet t.log s.log → s.clusters ≡ t.clusters → IsNoFreer t.space s.space
+      → s.worn ≡ t.worn → s.ends ≡ t.ends → d.is_same t.log.disk t.log.disk
+      → ((stored : Typed) → IsTables t stored → AreTailsFree stored (tables_now s).chunks) → Leaves t s
+  staged_leaves t s quiet clusters fewer worn ends self tails = record {
+    clusters = clusters;
+    tables = λ stored is. record {
+      map = is.map;
+      log = quiet.log is.map is.log;
+      is = is.is;
+      stored_apart = subst (λ (n : ℕ). IsApart journal_at (2 * half_bytes n) (named stored))
+          (sym clusters) is.stored_apart;
+      free = λ k at. subst (λ (n : ℕ). IsOut (first_data_cluster n + k) (clusters_of stored)) (sym clusters)
+          (is.free k (fewer k at));
+      tails = tails stored is;
+    };
+    moments = λ stored w is kept. subst (λ (x : D). Keeps (disk_of t) (d.state x) (Shows (area_of t) w))
+        (sym quiet.disk) (keeps_start (disk_of t) (Shows (area_of t) w) kept);
+    same = subst (λ (x : D). d.is_same t.log.disk x) (sym quiet.disk) self;
+    later = subst (λ (x : D). (disk_of t).faults ≤ (d.state x).faults) (sym quiet.disk) (omega arith);
+    place = quiet.place.next;
+    epoch = quiet.place.epoch;
+    ends = ends;
+    worn = worn;
+  }
+
+  -- and that leaves the containers and their pages
+  pub drop_leaves : (t s : Tables D d) → IsQuiet t.log s.log → s.clusters ≡ t.clusters → IsNoFreer t.space s.space
+      → s.worn ≡ t.worn → s.ends ≡ t.ends → d.is_same t.log.disk t.log.disk
+      → pages_of_tables (typed_of (log_now s.log)) ≡ pages_of_tables (typed_of (log_now t.log)) → Leaves t s
+  drop_leaves t s quiet clusters fewer worn ends self same =
+      staged_leaves t s quiet clusters fewer worn ends self
+      (λ stored is. same_tails stored (typed_of (log_now t.log)) (typed_of (log_now s.log)) same is.tails)
+
+  -- and the states of the clusters
+  pub quiet_leaves : (t s : Tables D d) → IsQuiet t.log s.log → s.clusters ≡ t.clusters → s.space ≡ t.space
+      → s.worn ≡ t.worn → s.ends ≡ t.ends → d.is_same t.log.disk t.log.disk
+      → pages_of_tables (typed_of (log_now s.log)) ≡ pages_of_tables (typed_of (log_now t.log)) → Leaves t s
+  quiet_leaves t s quiet clusters space worn ends self same =
+      drop_leaves t s quiet clusters (λ k at. subst (λ (xs : List State). IsIn xs k Free) space at) worn ends self same
 
   pub leaves_then : (next : (x y z : D) → d.is_same x y → d.is_same y z → d.is_same x z) (a b c : Tables D d)
       → Leaves a b → Leaves b c → Leaves a c

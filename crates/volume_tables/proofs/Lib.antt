@@ -14,6 +14,7 @@ pub mod Dropping
 pub mod Deferring
 pub mod Crashes
 pub mod Committing
+pub mod Tailed
 pub mod Leaving
 pub mod Told
 pub mod Freed
@@ -32,6 +33,7 @@ pub mod Counting
 pub mod Measured
 pub mod Counts
 pub mod Runs
+pub mod Behind
 pub mod Ranged
 pub mod Endured
 pub mod Spared

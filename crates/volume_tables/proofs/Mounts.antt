@@ -14,6 +14,7 @@ use Rattle.volume_inside.specs.Inside.{inside_at}
 use Rattle.volume_inside.specs.InsideOf.{IsImageOf, area_of as area_at}
 use Rattle.volume_inside.specs.Layout.{journal_at, half_bytes, first_data_cluster, AreData}
 use Rattle.volume_inside.specs.Lists.{IsOut}
+use Rattle.volume_inside.proofs.TailsOn.{tails_stored}
 use Rattle.volume_inside.specs.Named.{named, clusters_of}
 use Rattle.volume_inside.specs.Ranges.{IsApart}
 use Rattle.volume_inside.specs.Shows.{HasInside, Shows, Kept}
@@ -133,6 +134,7 @@ module _ {D : Type 0} {d : Ghosts D} (t : Tables D d) (n : ℕ) (s₀ s₁ : Dis
             (journal_apart n (tables_now t) in_data);
         free = λ k free. subst (λ (j : ℕ). IsOut (first_data_cluster j + k) cs) (sym is)
             (out_unless_used (first_data_cluster n) (states_of t) cs k Free free_differs filled.used free);
+        tails = tails_stored t.clusters (tables_now t) t.held.0 t.held.1.once;
       }
 
 -- ---- what clauses of one answer say together

@@ -31,6 +31,7 @@ use Rattle.table_records.specs.declared.records.VolumeRecord.{VolumeRecord}
 use Rattle.volume_inside.specs.Changes.{with_volume}
 use Rattle.volume_tables.proofs.Answers.{ok_or_err, on_ok, as_true, true_as}
 use Rattle.volume_tables.proofs.Puts.{volume_put}
+use Rattle.volume_tables.proofs.Tailed.{pages_of_tables}
 use Rattle.volume_tables.proofs.Sizes.{volume_key}
 use Rattle.volume_tables.proofs.Kept.{put_contents, dropped_contents, put_spelled}
 use Rattle.volume_tables.specs.Log.{log_now, log_staged}
@@ -42,30 +43,6 @@ use Rattle.volume_tables.specs.declared.tables.Tables.{Tables}
 use Rattle.volume_tables.proofs.WellFormed.{IsEntryTable, volume_table, checkpoint_put, checkpoint_without, found_size}
 
 module _ {D : Type 0} {d : Ghosts D} where
-  -- a call that stages, and leaves the states of the clusters
-  pub quiet_leaves : (t s : Tables D d) → IsQuiet t.log s.log → s.clusters ≡ t.clusters → s.space ≡ t.space
-      → s.worn ≡ t.worn → s.ends ≡ t.ends → d.is_same t.log.disk t.log.disk → Leaves t s
-  quiet_leaves t s quiet clusters space worn ends self = record {
-    clusters = clusters;
-    tables = λ stored is. record {
-      map = is.map;
-      log = quiet.log is.map is.log;
-      is = is.is;
-      stored_apart = subst (λ (n : ℕ). IsApart journal_at (2 * half_bytes n) (named stored))
-          (sym clusters) is.stored_apart;
-      free = subst (λ (p : ℕ × List State). (k : ℕ) → IsIn p.1 k Free
-          → IsOut (first_data_cluster p.0 + k) (clusters_of stored)) (λ i. (sym clusters i, sym space i)) is.free;
-    };
-    moments = λ stored w is kept. subst (λ (x : D). Keeps (disk_of t) (d.state x) (Shows (area_of t) w))
-        (sym quiet.disk) (keeps_start (disk_of t) (Shows (area_of t) w) kept);
-    same = subst (λ (x : D). d.is_same t.log.disk x) (sym quiet.disk) self;
-    later = subst (λ (x : D). (disk_of t).faults ≤ (d.state x).faults) (sym quiet.disk) (omega arith);
-    place = quiet.place.next;
-    epoch = quiet.place.epoch;
-    ends = ends;
-    worn = worn;
-  }
-
   pub as_put : {K V : Type 0} (c : Codec K V) (k : K) (v : V) (old new : MetaLog D d) (result : Result (Unit {0}) Fault)
       → IsStagedPut c k v old new result
       → OnOk result (IsPut c k v (log_now old) (log_now new))
@@ -166,6 +143,15 @@ module _ {D : Type 0} {d : Ghosts D} where
     entry_now f through means =
         on_ok_weaker result (λ put. ap (λ (x : Typed). with_ends t.ends x) (means put)
         ∙ through (typed_of (log_now t.log))) (as_put c k v t.log log result p)
+
+    -- a setter of another table leaves the containers and their pages
+    pub entry_pages : (f : Typed → Typed) → ((x : Typed) → pages_of_tables (f x) ≡ pages_of_tables x)
+        → (IsPut c k v (log_now t.log) (log_now log) → typed_of (log_now log) ≡ f (typed_of (log_now t.log)))
+        → pages_of_tables (typed_of (log_now log)) ≡ pages_of_tables (typed_of (log_now t.log))
+    entry_pages f others means = elim (ok_or_err result (as_put c k v t.log log result p) p.err) [
+      | inl put ↦ ap pages_of_tables (means put) ∙ others (typed_of (log_now t.log))
+      | inr same ↦ ap (λ (m : Map). pages_of_tables (typed_of m)) same
+    ]
 
     pub entry_kept : OnErr result (with_ends t.ends (typed_of (log_now log)) ≡ tables_now t)
     entry_kept = on_err_weaker result (λ same. ap (λ (m : Map). with_ends t.ends (typed_of m)) same) p.err

@@ -10,7 +10,6 @@ use Rattle.cluster_space.specs.States.{IsIn}
 use Rattle.table_records.specs.Keys.{pair_cmp}
 use Rattle.table_records.specs.declared.records.Extent.{Extent}
 use Rattle.volume_inside.specs.Layout.{first_data_cluster, IsDataCluster, AreData}
-use Rattle.volume_inside.specs.ChunkTables.{PageKey}
 use Rattle.volume_inside.specs.Typed.{Typed, FileBlock}
 use Rattle.volume_inside.specs.Named.{clusters_of, extent_clusters}
 use Rattle.volume_inside.specs.Lists.{IsOut, IsOnce}
@@ -69,10 +68,6 @@ all_deferred first es states = each_deferred first (extent_clusters es) states
 -- the key names the cluster, or nobody does
 abbrev pub IsNoOthers : FileBlock → ℕ → Typed → Type 0
 IsNoOthers k c t = ((o : Extent) × (find pair_cmp k t.extents ≡ Some o) × (o.cluster ≡ c)) ⊎ IsOut c (clusters_of t)
-
--- the same of the key of a page
-abbrev pub IsNoOtherPage : PageKey → ℕ → Typed → Type 0
-IsNoOtherPage k c t = (find pair_cmp k t.chunks.clusters ≡ Some c) ⊎ IsOut c (clusters_of t)
 
 -- ---- these facts have one proof at most
 

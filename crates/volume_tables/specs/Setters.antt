@@ -46,11 +46,15 @@ module _ {D : Type 0} {d : Ghosts D} where
       (cluster_at (find pair_cmp key (tables_now old).extents)) 24 extent.cluster
       (used_at (clusters_in old) extent.cluster (states_of old)) old new result
 
-  -- WHAT SETTING A PAGE OF A CONTAINER DOES, over a cluster that is used
-  abbrev pub IsPageSet : PageKey → ℕ → Tables D d → Tables D d → Result (Unit {0}) Fault → Type 0
-  IsPageSet key cluster old new result =
-      IsClusterSet (with_cluster key cluster) (find pair_cmp key (tables_now old).chunks.clusters)
-      (find pair_cmp key (tables_now old).chunks.clusters) 22 cluster (states_of old) old new result
+  -- WHAT SETTING A NEW PAGE OF A CONTAINER DOES: after Ok its cluster, which was free, is used
+  pub record IsPageSet (key : PageKey) (cluster : ℕ) (old new : Tables D d) (result : Result (Unit {0}) Fault)
+      : Type 0 where
+    pub ok : OnOk result (tables_now new ≡ with_cluster key cluster (tables_now old))
+    pub err : OnErr result (tables_now new ≡ tables_now old)
+    pub set : IsSet (find pair_cmp key (tables_now old).chunks.clusters) 22 old new result
+    pub leaves : Leaves old new
+    pub used : OnOk result (states_of new ≡ used_at (clusters_in old) cluster (states_of old))
+    pub unused : OnErr result (states_of new ≡ states_of old)
 
   -- WHAT SETTING THE SETTINGS DOES, whose value need not be as long as that before.
   pub record AreSettingsSet (settings : Settings) (old new : Tables D d) (result : Result (Unit {0}) Fault)

@@ -18,6 +18,7 @@ use Rattle.volume_inside.specs.Ranges.{IsApart}
 use Rattle.volume_inside.specs.Named.{named, clusters_of}
 use Rattle.volume_inside.specs.Lists.{IsOut}
 use Rattle.volume_inside.specs.Shows.{Area, Shows, Kept}
+use Rattle.volume_inside.specs.Tails.{AreTailsFree}
 use Rattle.meta_log.specs.Log.{checkpoint_length}
 use Rattle.meta_log.specs.Meta.{meta_of}
 use Rattle.meta_log.specs.Ready.{GoesOnFrom}
@@ -106,13 +107,15 @@ module _ {D : Type 0} {d : Ghosts D} where
   abbrev pub IsToldBy : Tables D d → List ℕ → Type 0
   IsToldBy t image = GoesOnFrom journal_at (half_bytes t.clusters) (log_place t.log) (log_epoch t.log) image
 
-  -- Each crash image spells the stored tables, which name no byte of the journal and no free cluster.
+  -- Each crash image spells the stored tables, which name no byte of the journal, no free cluster, and none behind what
+  -- the tables now use of a container.
   pub record IsTables (t : Tables D d) (stored : Typed) : Type 0 where
     pub map : Map
     pub log : IsLogOf t.log map
     pub is : typed_of map ≡ stored
     pub stored_apart : IsApart journal_at (2 * half_bytes t.clusters) (named stored)
     pub free : (k : ℕ) → IsIn (states_of t) k Free → IsOut (first_data_cluster t.clusters + k) (clusters_of stored)
+    pub tails : AreTailsFree stored (tables_now t).chunks
 
   -- What a call that makes nothing durable leaves: at any moment of it a crash shows what was kept.
   pub record Leaves (old new : Tables D d) : Type 0 where

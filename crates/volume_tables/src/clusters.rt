@@ -9,6 +9,7 @@ ghost use Rattle.volume_inside.specs.Layout.{first_data_cluster, IsDataCluster};
 ghost use Rattle.volume_inside.specs.Lists.{IsOut};
 ghost use Rattle.volume_inside.specs.Named.{clusters_of};
 ghost use Rattle.volume_inside.specs.Inside.{cluster_bytes, inside_at};
+ghost use Rattle.volume_inside.specs.Tails.{IsBehind};
 ghost use Rattle.volume_inside.specs.Typed.{Typed};
 ghost use Rattle.volume_tables.specs.Clusters.{HasState, used_at, deferred_at, deferred_unless, with_other, with_spare};
 ghost use Rattle.volume_tables.specs.Frames.{AreFree, NamesNoFree};
@@ -165,6 +166,8 @@ impl<D: Disk> Tables<D> {
         ensures writes { WritesData self.old self.new result }
         ensures written { (stored : Typed) → IsTables self.old stored → IfOk result (λ run. (k : ℕ) → k < run.count →
             cluster_bytes (run.first + k) (disk_of self.new).image ≡ part (4096 * k) 4096 bytes.now) }
+        ensures image { IfOk result (λ run. ChangedWithin (4096 * run.first) (4096 * run.count)
+            (disk_of self.old).image (disk_of self.new).image) }
         ensures same { inside_now self.new ≡ inside_now self.old }
         ensures frame { (t : Typed) → NamesNoFree self.old.clusters (states_of self.old) t →
             inside_at t (disk_of self.new).image ≡ inside_at t (disk_of self.old).image }
@@ -172,6 +175,25 @@ impl<D: Disk> Tables<D> {
         let run = self.free_run((bytes.len() / CLUSTER_BYTES as usize) as u32);
         self.write_run(run, &bytes[..CLUSTER_BYTES as usize * run.count as usize])?;
         Ok(run)
+    }
+
+    /// Writes bytes of a cluster of a container, from a place in it on, behind what is used of it. A refusal stops the
+    /// tables.
+    pub fn write_range(&mut self, cluster: u32, from: u16, bytes: &[u8]) -> Result<(), Fault>
+        requires running { stopped self.old ≡ false }
+        requires within { from + length bytes.now ≤ 4096 }
+        requires behind { IsBehind cluster from (tables_now self.old).chunks }
+        ensures writes { WritesData self.old self.new result }
+        ensures written { (stored : Typed) → IsTables self.old stored → OnOk result
+            (part (4096 * cluster + from) (length bytes.now) (disk_of self.new).image ≡ bytes.now) }
+        ensures image { ChangedWithin (4096 * cluster + from) (length bytes.now) (disk_of self.old).image
+            (disk_of self.new).image }
+        ensures same { inside_now self.new ≡ inside_now self.old }
+    {
+        fault::of_log(
+            self.log
+                .write_data(CLUSTER_BYTES as u64 * cluster as u64 + from as u64, bytes),
+        )
     }
 
     /// Reads bytes of data clusters beside one another, from a place in the first of them on, at once. After a refusal

@@ -1,10 +1,13 @@
 //! Containers, to which chunks are appended.
 
-ghost use Rattle.std.specs.Prelude.{◌≡◌, ◌≤◌, ◌+◌, not};
+ghost use Rattle.std.specs.Prelude.{◌≡◌, ◌≤◌, ◌+◌, not, true, None};
 ghost use Rattle.std.specs.Ordering.{nat_cmp};
 ghost use Rattle.std.specs.FinMap.Entries.{find};
 ghost use Rattle.table_records.specs.Changes.{is_in_range};
+ghost use Rattle.table_records.specs.Keys.{pair_cmp};
 ghost use Rattle.volume_inside.specs.Changes.{with_container, keep_containers};
+ghost use Rattle.volume_inside.specs.ChunkTables.{PageKey};
+ghost use Rattle.volume_inside.specs.Pages.{used_of};
 ghost use Rattle.volume_tables.specs.Dropped.{end_bytes};
 
 use crate::raw;
@@ -35,19 +38,23 @@ impl<D: Disk> Tables<D> {
         }
     }
 
-    /// Sets the record of a container. Room for 19 bytes of records was ensured.
+    /// Sets the record of a container, of which no fewer bytes are used than before. Room for 19 bytes of records was
+    /// ensured.
     pub fn set_container(&mut self, id: u64, container: Container) -> Result<(), Fault>
-        requires { staged_of self.old + 19 ≤ MOST_RECORDS }
+        requires room { staged_of self.old + 19 ≤ MOST_RECORDS }
+        requires grows { used_of (tables_now self.old).chunks.containers id ≤ container.used }
         ensures { IsSetIn (with_container id container) (find nat_cmp id (tables_now self.old).chunks.containers) 19
             self.old self.new result }
     {
         raw::put::<D, ContainerTable>(&mut self.log, id, container)
     }
 
-    /// Drops the records of the containers from an id on, all of them or those below another. Room for 23 bytes of
-    /// records was ensured.
+    /// Drops the records of the containers from an id on, all of them or those below another, none of which has a page.
+    /// Room for 23 bytes of records was ensured.
     pub fn drop_container(&mut self, from: u64, to: Option<u64>)
-        requires { staged_of self.old + 23 ≤ MOST_RECORDS }
+        requires room { staged_of self.old + 23 ≤ MOST_RECORDS }
+        requires bare { (key : PageKey) → is_in_range nat_cmp from to key.0 ≡ true →
+            find pair_cmp key (tables_now self.old).chunks.clusters ≡ None }
         ensures { IsDroppedIn (keep_containers (λ id. not (is_in_range nat_cmp from to id)))
             (5 + 9 + end_bytes (λ id. 9) to) (states_of self.old) self.old self.new }
     {

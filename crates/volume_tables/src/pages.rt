@@ -1,13 +1,13 @@
 //! The clusters of containers, each of which holds a page.
 
-ghost use Rattle.std.specs.Prelude.{◌≡◌, ◌≤◌, ◌<◌, ◌+◌, not, Option};
+ghost use Rattle.std.specs.Prelude.{◌≡◌, ◌≤◌, ◌+◌, not, None};
 ghost use Rattle.std.specs.FinMap.Entries.{find};
 ghost use Rattle.table_records.specs.Changes.{is_in_range};
 ghost use Rattle.table_records.specs.Keys.{pair_cmp};
 ghost use Rattle.volume_inside.specs.Changes.{with_cluster, keep_clusters};
 ghost use Rattle.volume_inside.specs.Layout.{first_data_cluster};
 ghost use Rattle.volume_inside.specs.Pages.{page_clusters};
-ghost use Rattle.volume_tables.specs.Clusters.{HasState, IsNoOtherPage, each_deferred};
+ghost use Rattle.volume_tables.specs.Clusters.{HasState, each_deferred};
 ghost use Rattle.volume_tables.specs.Dropped.{end_bytes, pages_in};
 
 use crate::raw;
@@ -20,7 +20,7 @@ use table_records::ClusterTable;
 use vdisk::Disk;
 
 impl<D: Disk> Tables<D> {
-    ghost use Rattle.volume_tables.specs.Setters.{IsSetIn, IsPageSet, IsDroppedIn};
+    ghost use Rattle.volume_tables.specs.Setters.{IsPageSet, IsDroppedIn};
     ghost use Rattle.volume_tables.specs.Tables.{tables_now, states_of, staged_of, next_after};
 
     /// The cluster of a page: `key` is the container's id and the page's number.
@@ -40,46 +40,18 @@ impl<D: Disk> Tables<D> {
         }
     }
 
-    /// Sets the cluster of a page, a used one that no other key names. The cluster that stood at the key stays used.
-    fn put_cluster(&mut self, key: (u64, u32), cluster: u32) -> Result<(), Fault>
+    /// Names a free cluster as a page that its container has not yet: `key` is the container's id and the page's
+    /// number. Room for 22 bytes of records was ensured. After Ok the cluster is used; after a refusal all is as before.
+    pub fn set_cluster(&mut self, key: (u64, u32), cluster: u32) -> Result<(), Fault>
         requires room { staged_of self.old + 22 ≤ MOST_RECORDS }
-        requires below { cluster < self.old.clusters }
-        requires used { HasState self.old.clusters (states_of self.old) State.Used cluster }
-        requires alone { IsNoOtherPage key cluster (tables_now self.old) }
-        ensures { IsSetIn (with_cluster key cluster) (find pair_cmp key (tables_now self.old).chunks.clusters) 22
-            self.old self.new result }
-    {
-        raw::put::<D, ClusterTable>(&mut self.log, key, cluster)
-    }
-
-    /// Names a used cluster as a page of a container: `key` is the container's id and the page's number. No other key
-    /// names the cluster, and the cluster `was` stands at the key, if one does. Room for 22 bytes of records was
-    /// ensured.
-    ///
-    /// After Ok the cluster is used, and another one that stood at the key is deferred. After a refusal the cluster is
-    /// deferred, unless the key names it.
-    pub fn set_cluster(
-        &mut self,
-        key: (u64, u32),
-        was: Option<u32>,
-        cluster: u32,
-    ) -> Result<(), Fault>
-        requires is { was ≡ find pair_cmp key (tables_now self.old).chunks.clusters }
-        requires room { staged_of self.old + 22 ≤ MOST_RECORDS }
-        requires used { HasState self.old.clusters (states_of self.old) State.Used cluster }
-        requires alone { IsNoOtherPage key cluster (tables_now self.old) }
+        requires new { find pair_cmp key (tables_now self.old).chunks.clusters ≡ None }
+        requires free { HasState self.old.clusters (states_of self.old) State.Free cluster }
         ensures { IsPageSet key cluster self.old self.new result }
     {
-        match self.put_cluster(key, cluster) {
-            Ok(()) => {
-                self.give_up_replaced(was, cluster);
-                Ok(())
-            }
-            Err(fault) => {
-                self.give_up_refused(was, cluster);
-                Err(fault)
-            }
-        }
+        let first = self.first_cluster();
+        raw::put::<D, ClusterTable>(&mut self.log, key, cluster)?;
+        self.space.mark_used(cluster - first);
+        Ok(())
     }
 
     /// Drops the pages from a key on, all of them or those below another. Their clusters are deferred. Room for 31

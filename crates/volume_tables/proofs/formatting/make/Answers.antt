@@ -1,11 +1,13 @@
-use Rattle.std.proofs.Common.{ℕ, subst, sym, length}
-use Rattle.meta_log.specs.Log.{state_of}
+use Rattle.std.proofs.Common.{◌∙◌, ℕ, ap, subst, sym, length}
+use Rattle.meta_log.specs.Log.{state_of, now_of}
 use Rattle.vdisk.specs.Steps.{Keeps}
 use Rattle.meta_log.specs.Log.{IsLog}
 use Rattle.meta_log.specs.declared.log.MetaLog.{MetaLog}
 use Rattle.volume_inside.specs.Fresh.{fresh_map}
 use Rattle.volume_tables.specs.Formats.{SpellsFresh, IsMakeImage}
 use Rattle.volume_inside.specs.Fresh.{fresh_tables}
+use Rattle.volume_inside.specs.Typed.{typed_of}
+use Rattle.volume_inside.proofs.Freshness.{fresh_typed}
 use Rattle.volume_tables.proofs.Told.{told_by_image}
 use Rattle.volume_tables.proofs.Committed.{formatted_tables, formatted_kept}
 use Rattle.volume_tables.proofs.Formatted.{make_start, make_records}
@@ -15,6 +17,8 @@ pub returns-in-Ok-commit_first-clause-tables : goal.returns-in-Ok-commit_first-c
 returns-in-Ok-commit_first-clause-tables g c told =
     let log = c.in-Ok-commit_first.ensures.log (c.in-Ok-make_log.ensures.log told) in
     formatted_tables c.assemble.result c.args.clusters c.assemble.ensures.clusters
+    (ap (λ (l : MetaLog g.row.D.Denot g.D.Disk). typed_of (now_of l)) c.assemble.ensures.log
+    ∙ ap typed_of c.in-Ok-commit_first.ensures.now ∙ fresh_typed)
     (subst (λ (l : MetaLog g.row.D.Denot g.D.Disk). IsLog l fresh_map) (sym c.assemble.ensures.log) log)
 
 pub returns-in-Ok-commit_first-clause-kept : goal.returns-in-Ok-commit_first-clause-kept
@@ -72,4 +76,6 @@ returns-in-Ok-commit_first-clause-goes_on g c told =
     let log = c.in-Ok-commit_first.ensures.log (c.in-Ok-make_log.ensures.log told) in
     told_by_image c.assemble.result fresh_tables
     (formatted_tables c.assemble.result c.args.clusters c.assemble.ensures.clusters
+    (ap (λ (l : MetaLog g.row.D.Denot g.D.Disk). typed_of (now_of l)) c.assemble.ensures.log
+    ∙ ap typed_of c.in-Ok-commit_first.ensures.now ∙ fresh_typed)
     (subst (λ (l : MetaLog g.row.D.Denot g.D.Disk). IsLog l fresh_map) (sym c.assemble.ensures.log) log))

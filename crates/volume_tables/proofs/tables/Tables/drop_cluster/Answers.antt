@@ -8,7 +8,9 @@ use Rattle.volume_inside.specs.Changes.{keep_clusters}
 use Rattle.volume_inside.specs.Layout.{first_data_cluster}
 use Rattle.volume_inside.specs.Pages.{page_clusters}
 use Rattle.volume_inside.proofs.Naming.{pages_parted}
+use Rattle.volume_inside.specs.Tails.{AreTailsFree}
 use Rattle.volume_inside.specs.Typed.{Typed, typed_of}
+use Rattle.volume_inside.proofs.TailsOn.{tails_without_pages}
 use Rattle.volume_tables.specs.Clusters.{AreHeld, each_deferred}
 use Rattle.volume_tables.specs.Dropped.{pages_in, AreUsed}
 use Rattle.volume_tables.specs.Log.{log_now}
@@ -18,8 +20,8 @@ use Rattle.volume_tables.proofs.Ready.{clusters_ready}
 use Rattle.volume_tables.proofs.RangeEnds.{end_exact}
 use Rattle.volume_tables.proofs.Sizes.{cluster_key, end_size}
 use Rattle.volume_tables.proofs.Setting.{drop_contents, drop_checkpoint, drop_now, drop_image}
-use Rattle.volume_tables.proofs.Leaving.{IsNoFreer}
-use Rattle.volume_tables.proofs.Deferring.{gone_used, held_dropped, all_no_freer, all_length, drop_leaves}
+use Rattle.volume_tables.proofs.Leaving.{staged_leaves, IsNoFreer}
+use Rattle.volume_tables.proofs.Deferring.{gone_used, held_dropped, all_no_freer, all_length}
 use Rattle.volume_tables.proofs.Counts.{drop_named}
 use Rattle.volume_tables.proofs.tables.Tables.drop_cluster.Goals as goal
 
@@ -94,11 +96,16 @@ returns g c = record {
       omega (arith, low, high, p.taken);
   leaves =
       let t = c.args.self.now in
-      drop_leaves t _ c.drop_range.ensures.quiet refl
+      staged_leaves t _ c.drop_range.ensures.quiet refl
       (subst (λ (xs : List State). IsNoFreer t.space xs) (sym c.defer_pages.ensures)
       (all_no_freer c.first_cluster-first.result
       (page_clusters (pages_in c.args.from c.args.to (typed_of (log_now t.log)).chunks.clusters)) t.space))
-      refl refl (g.met.D.Disk.same_self t.log.disk);
+      refl refl (g.met.D.Disk.same_self t.log.disk)
+      (λ stored is. subst (λ (q : Typed). AreTailsFree stored q.chunks)
+      (sym (clusters_dropped (log_now t.log) (log_now c.drop_range.new.log) c.args.from c.args.to
+      c.drop_range.ensures.dropped))
+      (tails_without_pages stored (typed_of (log_now t.log)) (λ k. not (is_in_range pair_cmp c.args.from c.args.to k))
+      is.tails));
   states =
       let t = c.args.self.now in
       c.defer_pages.ensures ∙ ap (λ (n : ℕ). each_deferred n

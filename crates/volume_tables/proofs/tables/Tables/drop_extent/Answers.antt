@@ -18,9 +18,10 @@ use Rattle.volume_tables.proofs.Ready.{extents_ready}
 use Rattle.volume_tables.proofs.RangeEnds.{end_exact}
 use Rattle.volume_tables.proofs.Sizes.{extent_key, end_size}
 use Rattle.volume_tables.proofs.Setting.{drop_contents, drop_checkpoint, drop_now, drop_image}
-use Rattle.volume_tables.proofs.Leaving.{IsNoFreer}
-use Rattle.volume_tables.proofs.Deferring.{held_used_once, held_dropped, all_no_freer, all_length, drop_leaves}
+use Rattle.volume_tables.proofs.Leaving.{drop_leaves, IsNoFreer}
+use Rattle.volume_tables.proofs.Deferring.{held_used_once, held_dropped, all_no_freer, all_length}
 use Rattle.volume_tables.proofs.Counts.{drop_named}
+use Rattle.volume_tables.proofs.Tailed.{pages_of_tables}
 use Rattle.volume_tables.proofs.tables.Tables.drop_extent.Goals as goal
 
 pub defer_range-requires-clause-keyed : goal.defer_range-requires-clause-keyed
@@ -97,7 +98,8 @@ returns g c = record {
       (subst (λ (xs : List State). IsNoFreer t.space xs) (sym c.defer_range.ensures)
       (all_no_freer c.first_cluster-first.result
       (extent_clusters (extents_in c.args.from c.args.to (typed_of (log_now t.log)).extents)) t.space))
-      refl refl (g.met.D.Disk.same_self t.log.disk);
+      refl refl (g.met.D.Disk.same_self t.log.disk)
+      (ap pages_of_tables (extents_dropped (log_now t.log) (log_now c.drop_range.new.log) c.args.from c.args.to c.drop_range.ensures.dropped));
   states =
       let t = c.args.self.now in
       c.defer_range.ensures ∙ ap (λ (n : ℕ).

@@ -13,8 +13,10 @@ use Rattle.volume_tables.proofs.Puts.{names_dropped}
 use Rattle.volume_tables.proofs.RangeEnds.{name_end_exact}
 use Rattle.volume_tables.proofs.Sizes.{name_key, name_end}
 use Rattle.volume_tables.proofs.Held.{held_same}
-use Rattle.volume_tables.proofs.Setting.{quiet_leaves, drop_contents, drop_checkpoint, drop_now, drop_image}
+use Rattle.volume_tables.proofs.Setting.{drop_contents, drop_checkpoint, drop_now, drop_image}
 use Rattle.volume_tables.proofs.Counts.{told_names, names_others}
+use Rattle.volume_tables.proofs.Leaving.{quiet_leaves}
+use Rattle.volume_tables.proofs.Tailed.{pages_of_tables}
 use Rattle.volume_tables.proofs.tables.Tables.drop_name.Goals as goal
 
 pub invariant_of-self-clause-contents : goal.invariant_of-self-clause-contents
@@ -80,8 +82,12 @@ returns g c = record {
       let high = name_end_exact (option_map (λ name. name.now) c.args.to) p.dropped.high p.dropped.ends in
       omega (arith, low, high, p.taken);
   leaves =
+      let t = c.args.self.now in
+      let to = option_map (λ name. name.now) c.args.to in
       quiet_leaves c.args.self.now _ c.drop_name_range.ensures.quiet refl refl refl refl
-      (g.met.D.Disk.same_self c.args.self.now.log.disk);
+      (g.met.D.Disk.same_self c.args.self.now.log.disk)
+      (ap pages_of_tables (names_dropped (log_now t.log) (log_now c.drop_name_range.new.log) c.args.from.now to
+      c.drop_name_range.ensures.dropped));
   states = refl;
   image = drop_image c.args.self.now c.drop_name_range.new.log c.drop_name_range.ensures.quiet;
   running = c.drop_name_range.ensures.quiet.running;

@@ -1,4 +1,4 @@
-use Rattle.std.proofs.Common.{arith, refl, subst, sym}
+use Rattle.std.proofs.Common.{ap, arith, refl, subst, sym}
 use Rattle.std.specs.Prelude.{not}
 use Rattle.table_records.specs.Keys.{pair_cmp}
 use Rattle.volume_inside.specs.Typed.{Typed, typed_of}
@@ -12,8 +12,10 @@ use Rattle.volume_tables.proofs.Puts.{places_dropped}
 use Rattle.volume_tables.proofs.RangeEnds.{end_exact}
 use Rattle.volume_tables.proofs.Sizes.{place_key, end_size}
 use Rattle.volume_tables.proofs.Held.{held_same}
-use Rattle.volume_tables.proofs.Setting.{quiet_leaves, drop_contents, drop_checkpoint, drop_now, drop_image}
+use Rattle.volume_tables.proofs.Setting.{drop_contents, drop_checkpoint, drop_now, drop_image}
 use Rattle.volume_tables.proofs.Counts.{drop_named}
+use Rattle.volume_tables.proofs.Leaving.{quiet_leaves}
+use Rattle.volume_tables.proofs.Tailed.{pages_of_tables}
 use Rattle.volume_tables.proofs.tables.Tables.drop_place.Goals as goal
 
 pub drop_range-requires : goal.drop_range-requires
@@ -62,8 +64,10 @@ returns g c = record {
       let high = end_exact place_codec 10 place_key c.args.to p.dropped.high p.dropped.ends in
       omega (arith, low, high, p.taken);
   leaves =
+      let t = c.args.self.now in
       quiet_leaves c.args.self.now _ c.drop_range.ensures.quiet refl refl refl refl
-      (g.met.D.Disk.same_self c.args.self.now.log.disk);
+      (g.met.D.Disk.same_self c.args.self.now.log.disk)
+      (ap pages_of_tables (places_dropped (log_now t.log) (log_now c.drop_range.new.log) c.args.from c.args.to c.drop_range.ensures.dropped));
   states = refl;
   image = drop_image c.args.self.now c.drop_range.new.log c.drop_range.ensures.quiet;
   running = c.drop_range.ensures.quiet.running;

@@ -10,8 +10,9 @@ use Rattle.volume_tables.proofs.WellFormed.{apart, extents_table}
 use Rattle.volume_tables.proofs.Puts.{extent_put}
 use Rattle.volume_tables.proofs.Sizes.{extent_key}
 use Rattle.volume_tables.proofs.Held.{held_set, same_others}
-use Rattle.volume_tables.proofs.Setting.{quiet_leaves, entry_set, entry_contents, entry_held, entry_few, entry_now, entry_kept}
+use Rattle.volume_tables.proofs.Setting.{entry_set, entry_contents, entry_held, entry_few, entry_now, entry_kept, entry_pages}
 use Rattle.volume_tables.proofs.Counts.{entry_named}
+use Rattle.volume_tables.proofs.Leaving.{quiet_leaves}
 use Rattle.volume_tables.proofs.tables.Tables.put_extent.Goals as goal
 
 pub put-requires : goal.put-requires
@@ -67,6 +68,11 @@ returns g c = record {
       (as_true c.args.self.now.contents.sorted) c.put.ensures 13
       (extent_key c.put.ensures.key k c.put.ensures.spells) 24 refl;
   leaves =
-      quiet_leaves c.args.self.now _ c.put.ensures.quiet refl refl refl refl (g.met.D.Disk.same_self c.args.self.now.log.disk);
+      let t = c.args.self.now in
+      let k : FileBlock = (c.args.key.0, c.args.key.1) in
+      quiet_leaves c.args.self.now _ c.put.ensures.quiet refl refl refl refl (g.met.D.Disk.same_self c.args.self.now.log.disk)
+      (entry_pages extent_codec t c.put.new.log k c.args.extent c.put.result c.put.ensures (with_extent k c.args.extent)
+      (λ x. refl)
+      (extent_put (log_now t.log) (log_now c.put.new.log) (as_true t.contents.sorted) k c.args.extent));
   states = refl;
 }

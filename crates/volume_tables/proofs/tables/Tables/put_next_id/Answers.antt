@@ -7,11 +7,13 @@ use Rattle.volume_tables.specs.Tables.{with_ends}
 use Rattle.volume_tables.proofs.WellFormed.{volume_table}
 use Rattle.volume_tables.proofs.Sizes.{volume_key}
 use Rattle.volume_tables.proofs.Held.{held_same}
-use Rattle.volume_tables.proofs.Setting.{quiet_leaves, volume_is_ok, volume_all, volume_staged, volume_checkpoint}
+use Rattle.volume_tables.proofs.Setting.{volume_is_ok, volume_all, volume_staged, volume_checkpoint}
 use Rattle.volume_tables.proofs.Setting.{volume_contents}
 use Rattle.volume_tables.proofs.Counts.{entry_named}
 use Rattle.table_records.specs.Tables.{volume_codec}
 use Rattle.volume_tables.proofs.WellFormed.{apart}
+use Rattle.volume_tables.proofs.Leaving.{quiet_leaves}
+use Rattle.volume_tables.proofs.Tailed.{pages_of_tables}
 use Rattle.volume_tables.proofs.tables.Tables.put_next_id.Goals as goal
 
 pub put-requires : goal.put-requires
@@ -55,6 +57,7 @@ returns-clause-checkpoint g c =
 pub returns-clause-leaves : goal.returns-clause-leaves
 returns-clause-leaves g c = quiet_leaves c.args.self.now _ c.put.ensures.quiet refl refl refl refl
     (g.met.D.Disk.same_self c.args.self.now.log.disk)
+    (ap pages_of_tables (volume_all c.args.self.now c.put.new.log c.args.next_id c.put.result c.put.ensures))
 
 pub invariant_of-self-clause-named : goal.invariant_of-self-clause-named
 invariant_of-self-clause-named g c =

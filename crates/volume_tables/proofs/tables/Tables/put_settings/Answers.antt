@@ -11,11 +11,12 @@ use Rattle.volume_tables.proofs.Answers.{as_true}
 use Rattle.volume_tables.proofs.Puts.{settings_put}
 use Rattle.volume_tables.proofs.Sizes.{settings_key}
 use Rattle.volume_tables.proofs.Held.{held_same}
-use Rattle.volume_tables.proofs.Setting.{quiet_leaves, as_put, entry_held, entry_few, entry_now}
+use Rattle.volume_tables.proofs.Setting.{as_put, entry_held, entry_few, entry_now, entry_pages}
 use Rattle.volume_tables.proofs.SettingsSize.{value_size}
 use Rattle.volume_tables.proofs.SettingsPut.{resized, settings_contents}
 use Rattle.volume_tables.proofs.Counts.{entry_named}
 use Rattle.volume_tables.proofs.WellFormed.{apart}
+use Rattle.volume_tables.proofs.Leaving.{quiet_leaves}
 use Rattle.volume_tables.proofs.tables.Tables.put_settings.Goals as goal
 
 pub returns-in_err-put_settings : goal.returns-in_err-put_settings
@@ -30,7 +31,10 @@ returns-in_err-put_settings g c =
           (resized t c.put_settings.new.log c.args.settings (Err c.in_err-put_settings.field-0.0)
           c.in_err-put_settings.ensures);
       leaves =
-          quiet_leaves t _ c.put_settings.ensures.quiet refl refl refl refl (g.met.D.Disk.same_self t.log.disk);
+          quiet_leaves t _ c.put_settings.ensures.quiet refl refl refl refl (g.met.D.Disk.same_self t.log.disk)
+          (entry_pages settings_codec t c.put_settings.new.log tt c.args.settings c.put_settings.result
+          c.put_settings.ensures (with_settings c.args.settings) (λ x. refl)
+          (settings_put (log_now t.log) (log_now c.put_settings.new.log) (as_true t.contents.sorted) c.args.settings));
       states = refl;
     }
 
@@ -74,6 +78,9 @@ returns g c =
       set = resized t c.put_settings.new.log c.args.settings (Ok c.in_ok-put_settings.field-0)
           c.in_ok-put_settings.ensures;
       leaves =
-          quiet_leaves t _ c.put_settings.ensures.quiet refl refl refl refl (g.met.D.Disk.same_self t.log.disk);
+          quiet_leaves t _ c.put_settings.ensures.quiet refl refl refl refl (g.met.D.Disk.same_self t.log.disk)
+          (entry_pages settings_codec t c.put_settings.new.log tt c.args.settings c.put_settings.result
+          c.put_settings.ensures (with_settings c.args.settings) (λ x. refl)
+          (settings_put (log_now t.log) (log_now c.put_settings.new.log) (as_true t.contents.sorted) c.args.settings));
       states = refl;
     }

@@ -4,6 +4,7 @@ use Rattle.vdisk.specs.Ranges.{part}
 use Rattle.vdisk.specs.Steps.{keeps_read}
 use Rattle.plain_volume.specs.declared.call.Fault.{Fault}
 use Rattle.volume_inside.specs.Shows.{Shows}
+use Rattle.volume_inside.specs.Tails.{AreTailsFree}
 use Rattle.byte_map.specs.Words.{Map}
 use Rattle.meta_log.specs.Log.{checkpoint_length}
 use Rattle.volume_inside.specs.Typed.{typed_of}
@@ -40,6 +41,7 @@ returns-clause-reads g c =
           stored_apart =
               is.stored_apart;
           free = is.free;
+          tails = subst (λ (m : Map). AreTailsFree stored (typed_of m).chunks) (sym s.now) is.tails;
         };
         moments = λ stored w is kept. keeps_read (disk_of t) (log_state c.read_data.new.self)
             (Shows (area_of t) w) s.untouched kept;

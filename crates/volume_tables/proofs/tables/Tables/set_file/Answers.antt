@@ -8,8 +8,9 @@ use Rattle.volume_tables.proofs.WellFormed.{apart, files_table}
 use Rattle.volume_tables.proofs.Puts.{file_put}
 use Rattle.volume_tables.proofs.Sizes.{file_key}
 use Rattle.volume_tables.proofs.Held.{held_same}
-use Rattle.volume_tables.proofs.Setting.{quiet_leaves, entry_set, entry_contents, entry_held, entry_few, entry_now, entry_kept}
+use Rattle.volume_tables.proofs.Setting.{entry_set, entry_contents, entry_held, entry_few, entry_now, entry_kept, entry_pages}
 use Rattle.volume_tables.proofs.Counts.{entry_named}
+use Rattle.volume_tables.proofs.Leaving.{quiet_leaves}
 use Rattle.volume_tables.proofs.tables.Tables.set_file.Goals as goal
 
 pub invariant_of-self-clause-contents : goal.invariant_of-self-clause-contents
@@ -51,6 +52,10 @@ returns g c = record {
       (as_true c.args.self.now.contents.sorted) c.put.ensures 9
       (file_key c.put.ensures.key c.args.id c.put.ensures.spells) 38 refl;
   leaves =
-      quiet_leaves c.args.self.now _ c.put.ensures.quiet refl refl refl refl (g.met.D.Disk.same_self c.args.self.now.log.disk);
+      let t = c.args.self.now in
+      quiet_leaves c.args.self.now _ c.put.ensures.quiet refl refl refl refl (g.met.D.Disk.same_self c.args.self.now.log.disk)
+      (entry_pages file_codec t c.put.new.log c.args.id c.args.file c.put.result c.put.ensures
+      (with_file c.args.id c.args.file) (λ x. refl)
+      (file_put (log_now t.log) (log_now c.put.new.log) (as_true t.contents.sorted) c.args.id c.args.file));
   states = refl;
 }

@@ -9,8 +9,9 @@ use Rattle.volume_tables.proofs.WellFormed.{apart, names_table}
 use Rattle.volume_tables.proofs.Puts.{name_put}
 use Rattle.volume_tables.proofs.Sizes.{name_key}
 use Rattle.volume_tables.proofs.Held.{held_same}
-use Rattle.volume_tables.proofs.Setting.{quiet_leaves, entry_set, entry_contents, entry_held, entry_few, entry_now, entry_kept}
+use Rattle.volume_tables.proofs.Setting.{entry_set, entry_contents, entry_held, entry_few, entry_now, entry_kept, entry_pages}
 use Rattle.volume_tables.proofs.Counts.{told_names, name_others}
+use Rattle.volume_tables.proofs.Leaving.{quiet_leaves}
 use Rattle.volume_tables.proofs.tables.Tables.set_name.Goals as goal
 
 pub invariant_of-self-clause-contents : goal.invariant_of-self-clause-contents
@@ -71,7 +72,11 @@ returns g c = record {
       (name_key c.put_name-answer.ensures.key c.args.name.now c.put_name-answer.ensures.spells)
       (14 + length c.args.name.now) (omega arith);
   leaves =
+      let t = c.args.self.now in
       quiet_leaves c.args.self.now _ c.put_name-answer.ensures.quiet refl refl refl refl
-      (g.met.D.Disk.same_self c.args.self.now.log.disk);
+      (g.met.D.Disk.same_self c.args.self.now.log.disk)
+      (entry_pages name_codec t c.put_name-answer.new.log c.args.name.now c.args.id c.put_name-answer.result
+      c.put_name-answer.ensures (with_name c.args.name.now c.args.id) (λ x. refl)
+      (name_put (log_now t.log) (log_now c.put_name-answer.new.log) (as_true t.contents.sorted) c.args.name.now c.args.id));
   states = refl;
 }

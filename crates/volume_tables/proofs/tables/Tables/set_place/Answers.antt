@@ -8,8 +8,9 @@ use Rattle.volume_tables.proofs.WellFormed.{apart, places_table}
 use Rattle.volume_tables.proofs.Puts.{place_put}
 use Rattle.volume_tables.proofs.Sizes.{place_key}
 use Rattle.volume_tables.proofs.Held.{held_same}
-use Rattle.volume_tables.proofs.Setting.{quiet_leaves, entry_set, entry_contents, entry_held, entry_few, entry_now, entry_kept}
+use Rattle.volume_tables.proofs.Setting.{entry_set, entry_contents, entry_held, entry_few, entry_now, entry_kept, entry_pages}
 use Rattle.volume_tables.proofs.Counts.{entry_named}
+use Rattle.volume_tables.proofs.Leaving.{quiet_leaves}
 use Rattle.volume_tables.proofs.tables.Tables.set_place.Goals as goal
 
 pub put-requires : goal.put-requires
@@ -57,6 +58,10 @@ returns g c = record {
       (as_true c.args.self.now.contents.sorted) c.put.ensures 10
       (place_key c.put.ensures.key (c.args.key.0, c.args.key.1) c.put.ensures.spells) 27 refl;
   leaves =
-      quiet_leaves c.args.self.now _ c.put.ensures.quiet refl refl refl refl (g.met.D.Disk.same_self c.args.self.now.log.disk);
+      let t = c.args.self.now in
+      quiet_leaves c.args.self.now _ c.put.ensures.quiet refl refl refl refl (g.met.D.Disk.same_self c.args.self.now.log.disk)
+      (entry_pages place_codec t c.put.new.log (c.args.key.0, c.args.key.1) c.args.place c.put.result c.put.ensures
+      (with_place (c.args.key.0, c.args.key.1) c.args.place) (λ x. refl)
+      (place_put (log_now t.log) (log_now c.put.new.log) (as_true t.contents.sorted) (c.args.key.0, c.args.key.1) c.args.place));
   states = refl;
 }

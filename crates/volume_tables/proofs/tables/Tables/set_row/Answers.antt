@@ -8,8 +8,9 @@ use Rattle.volume_tables.proofs.WellFormed.{apart, rows_table}
 use Rattle.volume_tables.proofs.Puts.{row_put}
 use Rattle.volume_tables.proofs.Sizes.{row_key}
 use Rattle.volume_tables.proofs.Held.{held_same}
-use Rattle.volume_tables.proofs.Setting.{quiet_leaves, entry_set, entry_contents, entry_held, entry_few, entry_now, entry_kept}
+use Rattle.volume_tables.proofs.Setting.{entry_set, entry_contents, entry_held, entry_few, entry_now, entry_kept, entry_pages}
 use Rattle.volume_tables.proofs.Counts.{entry_named}
+use Rattle.volume_tables.proofs.Leaving.{quiet_leaves}
 use Rattle.volume_tables.proofs.tables.Tables.set_row.Goals as goal
 
 pub put-requires : goal.put-requires
@@ -57,6 +58,10 @@ returns g c = record {
       (as_true c.args.self.now.contents.sorted) c.put.ensures 9
       (row_key c.put.ensures.key c.args.id c.put.ensures.spells) 64 refl;
   leaves =
-      quiet_leaves c.args.self.now _ c.put.ensures.quiet refl refl refl refl (g.met.D.Disk.same_self c.args.self.now.log.disk);
+      let t = c.args.self.now in
+      quiet_leaves c.args.self.now _ c.put.ensures.quiet refl refl refl refl (g.met.D.Disk.same_self c.args.self.now.log.disk)
+      (entry_pages row_codec t c.put.new.log c.args.id c.args.row c.put.result c.put.ensures
+      (with_row c.args.id c.args.row) (λ x. refl)
+      (row_put (log_now t.log) (log_now c.put.new.log) (as_true t.contents.sorted) c.args.id c.args.row));
   states = refl;
 }

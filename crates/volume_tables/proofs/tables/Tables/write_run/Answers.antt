@@ -4,6 +4,9 @@ use Rattle.std.proofs.lemmas.Result.{on_ok_weaker}
 use Rattle.vdisk.specs.Ranges.{part, part_written}
 use Rattle.vdisk.specs.Steps.{TornWithin}
 use Rattle.plain_volume.specs.declared.call.Fault.{Fault}
+use Rattle.byte_map.specs.Words.{Map}
+use Rattle.volume_inside.specs.Tails.{AreTailsFree}
+use Rattle.volume_inside.specs.Typed.{typed_of}
 use Rattle.volume_tables.specs.Log.{log_state}
 use Rattle.volume_tables.specs.Tables.{disk_of}
 use Rattle.volume_tables.proofs.Staged.{answer_ok}
@@ -48,6 +51,7 @@ returns-clause-writes g c =
               is = is.is;
               stored_apart = is.stored_apart;
               free = is.free;
+              tails = subst (λ (m : Map). AreTailsFree stored (typed_of m).chunks) (sym s.now) is.tails;
             };
             moments = λ stored w is kept. run_keeps t c.args.run c.requires.some c.requires.free stored w
                 (log_state c.write_data.new.self)
