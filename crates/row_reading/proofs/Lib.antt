@@ -1,0 +1,4 @@
+pub mod Readable
+pub mod Runs
+pub mod Sums
+pub mod Texts

@@ -1,0 +1,21 @@
+//! Rows are read, over the tables of chunks and the image that holds their bytes.
+//!
+//! A row is read from the first of its copies that has its digest (`specs/Reading.antt`). The bytes of a container lie in
+//! clusters, and those of clusters that lie beside one another are read at once. Nothing here takes memory.
+#![tactic(auto)]
+
+mod bases;
+mod chunk_disk;
+mod content;
+mod copies;
+mod entries;
+mod fault;
+pub mod laws;
+mod reading;
+
+pub use bases::check_base;
+pub use chunk_disk::ChunkDisk;
+pub use content::read_content;
+pub use fault::{BaseFault, RowFault};
+pub use reading::read_row;
+pub use vdisk::Failed;
