@@ -1,6 +1,8 @@
 -- Entries of maps, piece by piece.
 use Rattle.std.specs.Prelude.{◌≡◌, ◌≤◌, ◌<◌, ◌+◌, ◌*◌, ◌-◌, ◌/◌, ℕ, List, [], ◌∷◌, ◌++◌, length, take, Some, None}
 use Rattle.std.proofs.Common.{◌∙◌, ap, sym, subst, arith}
+use Rattle.std.specs.Prelude.{false, IsTrue, ◌↔◌}
+use Rattle.std.proofs.lemmas.Bool.{false≢true}
 use Rattle.std.proofs.Math.Seq.{take-length}
 use Rattle.vdisk.specs.Ranges.{part, length-part, part_more}
 use Rattle.table_records.specs.declared.chunk_records.Row.{Row}
@@ -82,6 +84,11 @@ pub empty_sum : (rows : List (ℕ × Row)) (bytes : List ℕ) → length bytes <
 empty_sum rows bytes size =
     let none = none_left bytes size in
     (subst (λ (es : List Entry). AllEntries (EntryHolds rows) es) (sym none) tt, sym (ap (λ (es : List Entry). total_length es) none))
+
+-- a map with an entry that breaks the rule
+pub map_broken : (rows : List (ℕ × Row)) (covers : ℕ) (bytes : List ℕ) → IsSum rows (entries_in bytes) None
+    → IsTrue false ↔ MapHolds rows covers (Some bytes)
+map_broken rows covers bytes never = (λ e. absurd (false≢true e), λ holds. absurd (never holds.0))
 
 -- a map whose entries have this sum
 pub map_covers : (rows : List (ℕ × Row)) (covers sum : ℕ) (bytes : List ℕ) → IsSum rows (entries_in bytes) (Some sum)

@@ -12,15 +12,15 @@ use vdisk::Failed;
 use volume_inside::CLUSTER_BYTES;
 
 /// Clusters beside one another.
-#[derive(Clone, Copy, Debug, PartialEq, Eq)]
+#[derive(Clone, Copy)]
 struct Run {
     first: u32,
     count: u32,
 }
 
-/// Whether a page of a container, which is there, is in this cluster.
+/// Whether a page of a container is in this cluster.
 fn is_in<D: ChunkDisk>(disk: &D, container: u64, index: u32, cluster: u64) -> bool
-    ensures { IsTrue result → find pair_cmp (container, index) (D.chunks disk.now).clusters ≡ Some cluster }
+    ensures { IsTrue result ↔ (find pair_cmp (container, index) (D.chunks disk.now).clusters ≡ Some cluster) }
 {
     match disk.get_cluster((container, index)) {
         Some(found) => u64::from(found) == cluster,
@@ -38,6 +38,8 @@ fn run_at<D: ChunkDisk>(disk: &D, container: u64, index: u32, most: u32) -> Run
     ensures some { 1 ≤ result.count }
     ensures most { result.count ≤ most }
     ensures beside { AreBeside (D.chunks disk.now) container index result.first result.count }
+    ensures longest { result.count < most → find pair_cmp (container, index + result.count)
+        (D.chunks disk.now).clusters ≡ Some (result.first + result.count) → ⊥ }
 {
     let first = disk.get_cluster((container, index)).unwrap();
     let mut count = 1;

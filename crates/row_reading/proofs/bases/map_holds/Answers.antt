@@ -1,13 +1,13 @@
 use Rattle.std.proofs.Common.{◌≡◌, ◌+◌, ◌*◌, ◌/◌, ℕ, List, length, take, drop, arith, subst, ◌∙◌, length-take, length-drop, length-append}
 use Rattle.std.specs.Prelude.{Some, None}
-use Rattle.std.proofs.lemmas.Bool.{le-leb, leb-true, false≢true}
+use Rattle.std.proofs.lemmas.Bool.{le-leb, leb-true}
 use Rattle.vdisk.specs.Ranges.{part}
 use Rattle.stream_map.specs.Pieces.{entries_in}
 use Rattle.volume_inside.specs.ChunkTables.{ChunkTables}
 use Rattle.volume_inside.specs.Pages.{content}
 use Rattle.volume_inside.proofs.BaseAppended.{length-content}
 use Rattle.row_reading.specs.Reading.{IsSum}
-use Rattle.row_reading.proofs.Sums.{piece_added, piece_broken, whole_sum, map_covers, map_short}
+use Rattle.row_reading.proofs.Sums.{piece_added, piece_broken, whole_sum, map_broken, map_covers, map_short}
 use Rattle.row_reading.proofs.bases.map_holds.Goals as goal
 
 pub returns-in-None-clause-is : goal.returns-in-None-clause-is
@@ -29,7 +29,7 @@ returns-in-None-clause-is g c tells =
     subst (λ (u : ChunkTables). IsSum u.rows (entries_in piece) None) (c.read_content.ensures.chunks ∙ inv.chunks) c.in-None.ensures.is in
     let broken = piece_broken t.rows c.entries_of_joined_bytes.ensures.joined bytes c.args.at done count piece is c.args.size
     (omega (arith, c.requires.within, long)) (omega arith) never in
-    (λ e. absurd (false≢true e), λ holds. absurd (broken holds.0))
+    map_broken t.rows c.args.covers (part c.args.at c.args.size bytes) broken
 
 pub loop-done-preserved : goal.loop-done-preserved
 loop-done-preserved g c =
