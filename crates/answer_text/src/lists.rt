@@ -9,7 +9,8 @@ use std::alloc::Global;
 
 /// A file's line, with the newline in front of it.
 pub fn add_line(text: &mut Vec<u8>, size: u64, name: &[u8]) -> Result<(), SessionFault>
-    ensures { OnOk result (text.new.items ≡ text.old.items ++ file_line size name.now) }
+    ensures text { OnOk result (text.new.items ≡ text.old.items ++ file_line size name.now) }
+    ensures memory { OnErr result (IsErrOf result SessionFault.Memory) }
 {
     add(text, b"\n")?;
     add_decimal(text, size)?;

@@ -26,6 +26,7 @@ pub mod Assembled
 pub mod Mounts
 pub mod Committed
 pub mod Formatted
+pub mod FirstRecords
 pub mod SettingsSize
 pub mod SettingsPut
 pub mod Roomed

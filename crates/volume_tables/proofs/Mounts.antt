@@ -1,5 +1,5 @@
 -- What a mount founds, over the disk before it, after the superblock was read, and after all.
-use Rattle.std.specs.Prelude.{◌≡◌, ◌*◌, ◌+◌, ℕ, List, IsTrue, Result, Ok, Err, IfOk, IfErr, refl}
+use Rattle.std.specs.Prelude.{◌≡◌, ◌*◌, ℕ, List, IsTrue, Result, Ok, Err, IfOk, IfErr, refl}
 use Rattle.std.proofs.Common.{sym, ◌∙◌, ap, subst, arith}
 use Rattle.vdisk.specs.Disk.{DiskState, Only}
 use Rattle.vdisk.specs.Steps.{keeps_then, keeps_as}
@@ -13,7 +13,6 @@ use Rattle.table_rules.specs.Marks.{IsFilled}
 use Rattle.volume_inside.specs.Inside.{inside_at}
 use Rattle.volume_inside.specs.InsideOf.{IsImageOf, area_of as area_at}
 use Rattle.volume_inside.specs.Layout.{journal_at, half_bytes, first_data_cluster, AreData}
-use Rattle.volume_inside.specs.Lists.{IsOut}
 use Rattle.volume_inside.proofs.TailsOn.{tails_stored}
 use Rattle.volume_inside.specs.Named.{named, clusters_of}
 use Rattle.volume_inside.specs.Ranges.{IsApart}
@@ -120,7 +119,7 @@ module _ {D : Type 0} {d : Ghosts D} (t : Tables D d) (n : ℕ) (s₀ s₁ : Dis
       } in
       subst (λ (q : List ℕ). Shows (area_of t) (view_now t) q) (sym at) shows
 
-  pub mounted_tables : t.clusters ≡ n → IsFilled n (clusters_of (tables_now t)) (states_of t)
+  pub mounted_tables : t.clusters ≡ n → IsFilled t.clusters (clusters_of (tables_now t)) (states_of t)
       → IsTables t (tables_now t)
   mounted_tables is filled =
       let cs = clusters_of (tables_now t) in
@@ -132,8 +131,8 @@ module _ {D : Type 0} {d : Ghosts D} (t : Tables D d) (n : ℕ) (s₀ s₁ : Dis
         is = sym from.now;
         stored_apart = subst (λ (k : ℕ). IsApart journal_at (2 * half_bytes k) (named (tables_now t))) (sym is)
             (journal_apart n (tables_now t) in_data);
-        free = λ k free. subst (λ (j : ℕ). IsOut (first_data_cluster j + k) cs) (sym is)
-            (out_unless_used (first_data_cluster n) (states_of t) cs k Free free_differs filled.used free);
+        free = λ k free. out_unless_used (first_data_cluster t.clusters) (states_of t) cs k Free free_differs
+            filled.used free;
         tails = tails_stored t.clusters (tables_now t) t.held.0 t.held.1.once;
       }
 

@@ -1,18 +1,16 @@
 //! A fresh volume is made.
 
 ghost use Rattle.std.specs.Prelude.{◌≡◌, ◌⊎◌, ◌≤◌, ◌<◌, ◌*◌, ◌+◌, ℕ, List, []};
-ghost use Rattle.std.specs.Prelude.{false, length, IsTrue, Ok, IfOk, IfErr, OnOk};
+ghost use Rattle.std.specs.Prelude.{false, length, IsTrue, Ok, IfOk, IfErr, OnOk, OnErr, IsErrOf};
 ghost use Rattle.std.specs.FinMap.Entries.{put};
 ghost use Rattle.byte_map.specs.Words.{bytes_cmp};
-ghost use Rattle.meta_log.specs.Log.{IsLog, now_of, staged_of, state_of};
+ghost use Rattle.meta_log.specs.Log.{IsLog, now_of, staged_of, state_of, checkpoint_length};
 ghost use Rattle.table_records.specs.Settings.{settings_bytes};
 ghost use Rattle.vdisk.specs.Causes.{HasCause, Rose};
 ghost use Rattle.volume_inside.specs.Fresh.{fresh_map, fresh_settings, fresh_tables};
 ghost use Rattle.volume_inside.specs.Layout.{journal_at, half_bytes as half_of};
 ghost use Rattle.table_rules.specs.Found.{AreRecordsOf};
 ghost use Rattle.table_rules.specs.Marks.{IsFilled};
-ghost use Rattle.volume_inside.specs.Named.{clusters_of};
-ghost use Rattle.volume_inside.specs.Rules.{RulesHold};
 ghost use Rattle.volume_inside.specs.Superblock.{IsSuperblock, HasSuperblock};
 ghost use Rattle.vdisk.specs.Steps.{Keeps};
 ghost use Rattle.volume_tables.specs.Log.{log_epoch, log_place};
@@ -21,8 +19,8 @@ ghost use Rattle.volume_tables.specs.Formats.{IsBegun, IsMakeImage, SpellsNoFile
 ghost use Rattle.volume_tables.specs.Sizes.{tables_bytes};
 ghost use Rattle.volume_tables.specs.Staging.{IsQuiet};
 ghost use Rattle.volume_inside.specs.Shows.{Kept};
-ghost use Rattle.volume_tables.specs.Tables.{tables_now, area_of, disk_of, states_of, due_of, IsToldBy};
-ghost use Rattle.volume_tables.specs.Tables.{staged_of as staged_in, stopped, IsTables};
+ghost use Rattle.volume_tables.specs.Mounted.{IsOpened};
+ghost use Rattle.volume_tables.specs.Tables.{tables_now, area_of, disk_of, IsToldBy, IsTables};
 
 use crate::mounting::{assemble, mount_fault};
 use crate::tables::Tables;
@@ -87,20 +85,28 @@ fn first_settings(alloc: Global) -> Settings
     }
 }
 
-/// Stages a pair.
+/// Stages a pair for which there is room.
 fn stage_pair<D: Disk>(log: &mut MetaLog<D>, key: &[u8], value: &[u8]) -> Result<(), MetaFault>
+    requires group { staged_of log.old + (5 + (length key.now + length value.now)) ≤ 65536 }
+    requires half { checkpoint_length (now_of log.old) + (5 + (length key.now + length value.now)) ≤ log.old.half }
     ensures now { OnOk result (now_of log.new ≡ put bytes_cmp key.now value.now (now_of log.old)) }
     ensures staged { OnOk result (staged_of log.new ≡ staged_of log.old + (5 + (length key.now + length value.now))) }
+    ensures checkpoint { OnOk result (checkpoint_length (now_of log.new)
+        ≤ checkpoint_length (now_of log.old) + (5 + (length key.now + length value.now))) }
     ensures quiet { IsQuiet log.old log.new }
+    ensures refused { OnErr result (IsErrOf result MetaFault.Memory) }
 {
     log.stage_put(key, value)
 }
 
 /// Stages the results of all kinds.
 fn stage_results<D: Disk>(log: &mut MetaLog<D>) -> Result<(), MetaFault>
+    requires group { staged_of log.old + 64 ≤ 65536 }
+    requires half { checkpoint_length (now_of log.old) + 64 ≤ log.old.half }
     ensures now { OnOk result (now_of log.new ≡ with_results (now_of log.old)) }
     ensures staged { OnOk result (staged_of log.new ≡ staged_of log.old + 64) }
     ensures quiet { IsQuiet log.old log.new }
+    ensures refused { OnErr result (IsErrOf result MetaFault.Memory) }
 {
     stage_pair(log, &[10, 1], &NO_RESULT)?;
     stage_pair(log, &[10, 2], &NO_RESULT)?;
@@ -112,9 +118,12 @@ fn stage_results<D: Disk>(log: &mut MetaLog<D>) -> Result<(), MetaFault>
 fn stage_first<D: Disk>(log: &mut MetaLog<D>, settings: &[u8]) -> Result<(), MetaFault>
     requires empty { now_of log.old ≡ [] }
     requires settings { settings.now ≡ settings_bytes fresh_settings }
+    requires none { staged_of log.old ≡ 0 }
+    requires wide { 65618 ≤ log.old.half }
     ensures now { OnOk result (now_of log.new ≡ fresh_map) }
     ensures staged { OnOk result (staged_of log.new ≡ staged_of log.old + 106) }
     ensures quiet { IsQuiet log.old log.new }
+    ensures refused { OnErr result (IsErrOf result MetaFault.Memory) }
 {
     stage_pair(log, &[1], &FIRST_RECORD)?;
     stage_pair(log, &[9], settings)?;
@@ -156,12 +165,13 @@ fn commit_first<D: Disk>(
 {
     match stage_first(&mut log, settings) {
         Ok(()) => {}
-        Err(_) => return Err((log.into_disk(), MountFault::Memory)),
+        Err(MetaFault::Memory) => return Err((log.into_disk(), MountFault::Memory)),
+        Err(_) => unreachable!(),
     }
     match log.commit() {
         Ok(()) => Ok(log),
         Err(MetaFault::Failed) => Err((log.into_disk(), MountFault::Failed)),
-        Err(_) => Err((log.into_disk(), MountFault::Memory)),
+        Err(_) => unreachable!(),
     }
 }
 
@@ -266,17 +276,12 @@ fn make<D: Disk>(alloc: Global, disk: D, clusters: u32) -> Result<Tables<D>, (D,
     requires fits { length (D.state disk).image ≤ 4096 * clusters }
     ensures tables { IsTrue (D.state disk).tells → IfOk result (λ tables. IsTables tables fresh_tables) }
     ensures kept { IsTrue (D.state disk).tells → IfOk result (λ tables. Kept (area_of tables) (disk_of tables) []) }
+    ensures opened { IfOk result IsOpened }
     ensures now { IfOk result (λ tables. tables_now tables ≡ fresh_tables) }
-    ensures space { IfOk result (λ tables. IsFilled clusters (clusters_of (tables_now tables)) (states_of tables)) }
-    ensures rules { IfOk result (λ tables. RulesHold clusters (tables_now tables)) }
     ensures clusters { IfOk result (λ tables. tables.clusters ≡ clusters) }
-    ensures staged { IfOk result (λ tables. staged_in tables ≡ 0) }
-    ensures due { IfOk result (λ tables. due_of tables ≡ 0) }
     ensures first { IfOk result (λ tables. log_epoch tables.log ≡ 1) }
     ensures next { IfOk result (λ tables. log_place tables.log ≡ tables_bytes fresh_tables + 37) }
     ensures goes_on { IsTrue (D.state disk).tells → IfOk result (λ tables. IsToldBy tables (disk_of tables).image) }
-    ensures runs { IfOk result (λ tables. stopped tables ≡ false) }
-    ensures fresh { IfOk result (λ tables. tables.worn ≡ false) }
     ensures moments { IsTrue (D.state disk).tells →
         IfOk result (λ tables. Keeps (D.state disk) (disk_of tables) (IsMakeImage clusters (D.state disk))) }
     ensures moments_err { IsTrue (D.state disk).tells →
@@ -311,19 +316,13 @@ impl<D: Disk> Tables<D> {
         requires most { clusters ≤ 1048576 }
         ensures tables { IsTrue (D.state disk).tells → IfOk result (λ tables. IsTables tables fresh_tables) }
         ensures kept { IsTrue (D.state disk).tells → IfOk result (λ tables. Kept (area_of tables) (disk_of tables) []) }
+        ensures opened { IfOk result IsOpened }
         ensures now { IfOk result (λ tables. tables_now tables ≡ fresh_tables) }
-        ensures space { IfOk result
-            (λ tables. IsFilled tables.clusters (clusters_of (tables_now tables)) (states_of tables)) }
-        ensures rules { IfOk result (λ tables. RulesHold tables.clusters (tables_now tables)) }
         ensures clusters { IfOk result (λ tables. tables.clusters ≡ clusters) }
-        ensures staged { IfOk result (λ tables. staged_in tables ≡ 0) }
-        ensures due { IfOk result (λ tables. due_of tables ≡ 0) }
         ensures first { IfOk result (λ tables. log_epoch tables.log ≡ 1) }
         // The first records stand as one group behind an empty checkpoint.
         ensures next { IfOk result (λ tables. log_place tables.log ≡ tables_bytes fresh_tables + 37) }
         ensures goes_on { IsTrue (D.state disk).tells → IfOk result (λ tables. IsToldBy tables (disk_of tables).image) }
-        ensures runs { IfOk result (λ tables. stopped tables ≡ false) }
-        ensures fresh { IfOk result (λ tables. tables.worn ≡ false) }
         ensures moments { IsTrue (D.state disk).tells →
             IfOk result (λ tables. Keeps (D.state disk) (disk_of tables) (IsMakeImage clusters (D.state disk))) }
         ensures moments_err { IsTrue (D.state disk).tells →

@@ -11,15 +11,14 @@ ghost use Rattle.table_rules.specs.Marks.{IsFilled};
 ghost use Rattle.volume_inside.specs.InsideOf.{InsideOf};
 ghost use Rattle.volume_inside.specs.Layout.{half_bytes as half_of, journal_at};
 ghost use Rattle.volume_inside.specs.Named.{clusters_of};
-ghost use Rattle.volume_inside.specs.Rules.{IsVolume, RulesHold};
+ghost use Rattle.volume_inside.specs.Rules.{IsVolume};
 ghost use Rattle.volume_inside.specs.Shows.{Kept};
 ghost use Rattle.volume_inside.specs.Typed.{typed_of};
 ghost use Rattle.volume_tables.specs.Mount.{read_meta, IsLogFault};
 ghost use Rattle.volume_tables.specs.Mount.{IsInnerFault, IsMountFault, mount_fault_of};
-ghost use Rattle.volume_tables.specs.Mounted.{IsMountedFrom, AreTablesOf};
+ghost use Rattle.volume_tables.specs.Mounted.{IsMountedFrom, IsOpened, AreTablesOf};
 ghost use Rattle.volume_tables.specs.Log.{log_now};
-ghost use Rattle.volume_tables.specs.Tables.{tables_now, inside_now, view_now, area_of, due_of, IsToldBy};
-ghost use Rattle.volume_tables.specs.Tables.{disk_of, states_of, staged_of as staged_in, stopped, IsTables};
+ghost use Rattle.volume_tables.specs.Tables.{tables_now, inside_now, view_now, area_of, disk_of, IsToldBy, IsTables};
 
 use crate::ends::JobEnds;
 use crate::front::read_front;
@@ -80,17 +79,15 @@ pub(crate) fn assemble<D: Disk>(log: MetaLog<D>, clusters: u32, found: Checked) 
     requires half { log.half ≡ half_of clusters }
     requires size { length (state_of log).image ≡ 4096 * clusters }
     requires staged { staged_of log ≡ 0 }
+    requires running { log.stopped ≡ false }
     requires volume { IsVolume clusters (log_now log) }
     requires sorted { T (is_sorted bytes_cmp (log_now log)) }
     requires records { AreRecordsOf (typed_of (log_now log)) found.records }
     requires space { IsFilled clusters (clusters_of (typed_of (log_now log))) found.space }
     ensures log { result.log ≡ log }
     ensures clusters { result.clusters ≡ clusters }
-    ensures space { result.space ≡ found.space }
     ensures tables { tables_now result ≡ typed_of (log_now log) }
-    ensures rules { RulesHold clusters (tables_now result) }
-    ensures due { due_of result ≡ 0 }
-    ensures worn { result.worn ≡ false }
+    ensures opened { IsOpened result }
 {
     let Checked { records, space } = found;
     let Records {
@@ -121,18 +118,13 @@ fn open_tables<D: Disk>(alloc: Global, disk: D, clusters: u32) -> Result<Tables<
     requires most { clusters ≤ 1048576 }
     requires size { length (D.state disk).image ≡ 4096 * clusters }
     ensures spells { IsTrue (D.state disk).tells → IfOk result (IsMountedFrom clusters (D.state disk)) }
+    ensures opened { IfOk result IsOpened }
     ensures clusters { IfOk result (λ tables. tables.clusters ≡ clusters) }
     ensures refused { IfErr result (λ e. IsInnerFault clusters (D.state disk) (D.state e.0) e.1) }
     ensures read { IfOk result (λ tables. IsOnlyRead (D.state disk) (disk_of tables)) }
     ensures read_err { IfErr result (λ e. IsOnlyRead (D.state disk) (D.state e.0)) }
     ensures same { IfOk result (λ tables. D.is_same disk tables.log.disk) }
     ensures same_err { IfErr result (λ e. D.is_same disk e.0) }
-    ensures staged { IfOk result (λ tables. staged_in tables ≡ 0) }
-    ensures due { IfOk result (λ tables. due_of tables ≡ 0) }
-    ensures runs { IfOk result (λ tables. stopped tables ≡ false) }
-    ensures fresh { IfOk result (λ tables. tables.worn ≡ false) }
-    ensures space { IfOk result (λ tables. IsFilled clusters (clusters_of (tables_now tables)) (states_of tables)) }
-    ensures rules { IfOk result (λ tables. RulesHold clusters (tables_now tables)) }
 {
     let log = match open_log(alloc, disk, clusters) {
         Ok(log) => log,
@@ -159,18 +151,12 @@ impl<D: Disk> Tables<D> {
         ensures tables { IsTrue (D.state disk).tells → IfOk result (λ tables. IsTables tables (tables_now tables)) }
         ensures kept { IsTrue (D.state disk).tells →
             IfOk result (λ tables. Kept (area_of tables) (disk_of tables) (view_now tables)) }
+        ensures opened { IfOk result IsOpened }
         ensures refused { IfErr result (λ e. IsMountFault (D.state disk) (D.state e.0) e.1) }
         ensures read { IfOk result (λ tables. IsOnlyRead (D.state disk) (disk_of tables)) }
         ensures read_err { IfErr result (λ e. IsOnlyRead (D.state disk) (D.state e.0)) }
         ensures same { IfOk result (λ tables. D.is_same disk tables.log.disk) }
         ensures same_err { IfErr result (λ e. D.is_same disk e.0) }
-        ensures space { IfOk result
-            (λ tables. IsFilled tables.clusters (clusters_of (tables_now tables)) (states_of tables)) }
-        ensures rules { IfOk result (λ tables. RulesHold tables.clusters (tables_now tables)) }
-        ensures staged { IfOk result (λ tables. staged_in tables ≡ 0) }
-        ensures due { IfOk result (λ tables. due_of tables ≡ 0) }
-        ensures runs { IfOk result (λ tables. stopped tables ≡ false) }
-        ensures fresh { IfOk result (λ tables. tables.worn ≡ false) }
     {
         match read_front(&mut disk) {
             Ok(clusters) => open_tables(alloc, disk, clusters),

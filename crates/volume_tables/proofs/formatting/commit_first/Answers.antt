@@ -1,4 +1,4 @@
-use Rattle.std.proofs.Common.{◌≡◌, ◌+◌, ◌≤◌, [], ap, subst, sym, ◌∙◌, length, inr, refl, arith}
+use Rattle.std.proofs.Common.{◌≡◌, ◌+◌, ◌≤◌, [], ap, subst, sym, ◌∙◌, length, arith}
 use Rattle.byte_map.specs.Words.{Map}
 use Rattle.meta_log.specs.Log.{IsLog, state_of, now_of, staged_of, checkpoint_length}
 use Rattle.meta_log.proofs.Spends.{none_taken}
@@ -23,8 +23,8 @@ returns-in-Ok-commit-clause-settled g c log image left =
     (ap (λ (disk : g.row.D.Denot). (g.D.Disk.state disk).image) c.stage_first.ensures.quiet.disk)
     (c.in-Ok-commit.ensures.settled [] (c.stage_first.ensures.quiet.log [] log) image left)
 
-pub returns-in-Err-clause-moments_err : goal.returns-in-Err-clause-moments_err
-returns-in-Err-clause-moments_err g c log =
+pub returns-in-Err-Memory-clause-moments_err : goal.returns-in-Err-Memory-clause-moments_err
+returns-in-Err-Memory-clause-moments_err g c log =
     let l = c.args.log in
     subst (λ (x : g.row.D.Denot). Keeps (state_of l) (g.D.Disk.state x)
     (SpellsNoFile l.at l.half (length (state_of l).image)))
@@ -48,37 +48,6 @@ returns-in-Err-Failed-clause-moments_err g c log =
     (first_staged l staged (state_of c.commit.new.self) s.disk s.place.at s.place.half
     (first_committed staged (s.log [] log) (state_of c.commit.new.self) (now_of staged) c.in-Ok.ensures.now
     (c.commit.ensures.moments [] (s.log [] log))))
-
-pub returns-in-Err-commit : goal.returns-in-Err-commit
-returns-in-Err-commit g c =
-    let l = c.args.log in
-    let s = c.stage_first.ensures.quiet in
-    let staged = c.stage_first.new.log in
-    let into = c.into_disk-in-Err-commit.ensures in
-    record {
-      now = tt;
-      log = λ log. tt;
-      settled = λ log. tt;
-      moments = λ log. tt;
-      moments_err = λ log.
-          subst (λ (x : g.row.D.Denot). Keeps (state_of l) (g.D.Disk.state x)
-          (SpellsNoFile l.at l.half (length (state_of l).image))) (sym into)
-          (first_staged l staged (state_of c.commit.new.self) s.disk s.place.at s.place.half
-          (first_committed staged (s.log [] log) (state_of c.commit.new.self) (now_of staged) c.in-Ok.ensures.now
-          (c.commit.ensures.moments [] (s.log [] log))));
-      later = tt;
-      size = tt;
-      at = tt;
-      half = tt;
-      staged = tt;
-      first = tt;
-      next = tt;
-      runs = tt;
-      refused = inr refl;
-      same = tt;
-      same_err = subst (λ (x : g.row.D.Denot). g.D.Disk.is_same l.disk x) (sym into)
-          (subst (λ (x : g.row.D.Denot). g.D.Disk.is_same x c.commit.new.self.disk) s.disk c.commit.ensures.same);
-    }
 
 pub returns-in-Ok-commit-clause-first : goal.returns-in-Ok-commit-clause-first
 returns-in-Ok-commit-clause-first g c =

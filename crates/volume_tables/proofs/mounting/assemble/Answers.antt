@@ -1,4 +1,4 @@
-use Rattle.std.proofs.Common.{arith}
+use Rattle.std.proofs.Common.{arith, refl}
 use Rattle.table_rules.specs.Found.{volume_record}
 use Rattle.volume_inside.specs.Rules.{IsVolumeRecord}
 use Rattle.volume_tables.proofs.Pended.{none_left}
@@ -27,14 +27,17 @@ invariant_of-result g c =
       few = λ runs fresh. omega (arith, c.requires.staged);
     }
 
-pub returns-clause-rules : goal.returns-clause-rules
-returns-clause-rules g c =
+pub returns-clause-opened : goal.returns-clause-opened
+returns-clause-opened g c =
     let n = c.args.clusters in
     let m = c.args.log.map in
     let r = c.args.found.records in
-    rules_found n m r c.requires.sorted c.requires.volume c.requires.records
-
-pub returns-clause-due : goal.returns-clause-due
-returns-clause-due g c =
-    let none = none_left c.args.found.records.results in
-    omega (arith, none, c.requires.staged)
+    let none = none_left r.results in
+    record {
+      staged = c.requires.staged;
+      due = omega (arith, none, c.requires.staged);
+      runs = c.requires.running;
+      fresh = refl;
+      space = c.requires.space;
+      rules = rules_found n m r c.requires.sorted c.requires.volume c.requires.records;
+    }

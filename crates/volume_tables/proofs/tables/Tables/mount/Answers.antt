@@ -1,12 +1,10 @@
 use Rattle.std.proofs.Common.{◌≡◌, ◌∙◌}
 use Rattle.meta_log.specs.Opened.{IsOnlyRead}
-use Rattle.table_rules.specs.Marks.{IsFilled}
-use Rattle.volume_inside.specs.Named.{clusters_of}
 use Rattle.volume_inside.specs.Shows.{Kept}
 use Rattle.volume_inside.specs.declared.mount_fault.MountFault.{MountFault}
 use Rattle.volume_tables.specs.Mount.{IsInnerFault, IsMountFault}
-use Rattle.volume_tables.specs.Mounted.{IsMountedFrom, AreTablesOf}
-use Rattle.volume_tables.specs.Tables.{tables_now, view_now, area_of, disk_of, states_of, IsTables, IsToldBy}
+use Rattle.volume_tables.specs.Mounted.{IsMountedFrom, IsOpened, AreTablesOf}
+use Rattle.volume_tables.specs.Tables.{tables_now, view_now, area_of, disk_of, IsTables, IsToldBy}
 use Rattle.volume_tables.specs.declared.tables.Tables.{Tables}
 use Rattle.volume_tables.proofs.Mounts.{mounted_tables, mounted_whole, mounted_goes_on, mounted_kept, inner_refused, ok_four, err_then}
 use Rattle.volume_tables.proofs.tables.Tables.mount.Goals as goal
@@ -21,11 +19,11 @@ returns-in-Ok-clause-tables g c told =
     (λ (t : Tables g.row.D.Denot g.D.Disk). IsMountedFrom n s₁ t)
     (λ (t : Tables g.row.D.Denot g.D.Disk). t.clusters ≡ n)
     (λ (t : Tables g.row.D.Denot g.D.Disk). IsOnlyRead s₁ (disk_of t))
-    (λ (t : Tables g.row.D.Denot g.D.Disk). IsFilled n (clusters_of (tables_now t)) (states_of t))
+    (λ (t : Tables g.row.D.Denot g.D.Disk). IsOpened t)
     (λ (t : Tables g.row.D.Denot g.D.Disk). IsTables t (tables_now t))
-    (λ t from is second filled. mounted_tables t n s₀ s₁ first second from is filled)
+    (λ t from is second opened. mounted_tables t n s₀ s₁ first second from is opened.space)
     (c.open_tables.ensures.spells (first.keeps.tells ∙ told)) c.open_tables.ensures.clusters c.open_tables.ensures.read
-    c.open_tables.ensures.space
+    c.open_tables.ensures.opened
 
 pub returns-in-Ok-clause-kept : goal.returns-in-Ok-clause-kept
 returns-in-Ok-clause-kept g c told =
@@ -37,12 +35,12 @@ returns-in-Ok-clause-kept g c told =
     (λ (t : Tables g.row.D.Denot g.D.Disk). IsMountedFrom n s₁ t)
     (λ (t : Tables g.row.D.Denot g.D.Disk). t.clusters ≡ n)
     (λ (t : Tables g.row.D.Denot g.D.Disk). IsOnlyRead s₁ (disk_of t))
-    (λ (t : Tables g.row.D.Denot g.D.Disk). IsFilled n (clusters_of (tables_now t)) (states_of t))
+    (λ (t : Tables g.row.D.Denot g.D.Disk). IsOpened t)
     (λ (t : Tables g.row.D.Denot g.D.Disk). Kept (area_of t) (disk_of t) (view_now t))
-    (λ t from is second filled. mounted_kept t n s₀ s₁ first second from is (c.in-Ok.ensures.image told)
+    (λ t from is second opened. mounted_kept t n s₀ s₁ first second from is (c.in-Ok.ensures.image told)
     (c.in-Ok.ensures.settled told))
     (c.open_tables.ensures.spells (first.keeps.tells ∙ told)) c.open_tables.ensures.clusters c.open_tables.ensures.read
-    c.open_tables.ensures.space
+    c.open_tables.ensures.opened
 
 pub returns-in-Ok-clause-refused : goal.returns-in-Ok-clause-refused
 returns-in-Ok-clause-refused g c =
@@ -65,11 +63,11 @@ returns-in-Ok-clause-whole g c told =
     (λ (t : Tables g.row.D.Denot g.D.Disk). IsMountedFrom n s₁ t)
     (λ (t : Tables g.row.D.Denot g.D.Disk). t.clusters ≡ n)
     (λ (t : Tables g.row.D.Denot g.D.Disk). IsOnlyRead s₁ (disk_of t))
-    (λ (t : Tables g.row.D.Denot g.D.Disk). IsFilled n (clusters_of (tables_now t)) (states_of t))
+    (λ (t : Tables g.row.D.Denot g.D.Disk). IsOpened t)
     (λ (t : Tables g.row.D.Denot g.D.Disk). AreTablesOf t.clusters s₀.image (tables_now t))
-    (λ t from is second filled. mounted_whole t n s₀ s₁ first second from is)
+    (λ t from is second opened. mounted_whole t n s₀ s₁ first second from is)
     (c.open_tables.ensures.spells (first.keeps.tells ∙ told)) c.open_tables.ensures.clusters c.open_tables.ensures.read
-    c.open_tables.ensures.space
+    c.open_tables.ensures.opened
 
 pub returns-in-Ok-clause-goes_on : goal.returns-in-Ok-clause-goes_on
 returns-in-Ok-clause-goes_on g c told =
@@ -81,8 +79,8 @@ returns-in-Ok-clause-goes_on g c told =
     (λ (t : Tables g.row.D.Denot g.D.Disk). IsMountedFrom n s₁ t)
     (λ (t : Tables g.row.D.Denot g.D.Disk). t.clusters ≡ n)
     (λ (t : Tables g.row.D.Denot g.D.Disk). IsOnlyRead s₁ (disk_of t))
-    (λ (t : Tables g.row.D.Denot g.D.Disk). IsFilled n (clusters_of (tables_now t)) (states_of t))
+    (λ (t : Tables g.row.D.Denot g.D.Disk). IsOpened t)
     (λ (t : Tables g.row.D.Denot g.D.Disk). IsToldBy t s₀.image)
-    (λ t from is second filled. mounted_goes_on t n s₀ s₁ first second from is)
+    (λ t from is second opened. mounted_goes_on t n s₀ s₁ first second from is)
     (c.open_tables.ensures.spells (first.keeps.tells ∙ told)) c.open_tables.ensures.clusters c.open_tables.ensures.read
-    c.open_tables.ensures.space
+    c.open_tables.ensures.opened
