@@ -1,16 +1,14 @@
 -- Tables that were just made or mounted are sound.
-use Rattle.std.specs.Prelude.{◌≡◌, ◌+◌, ◌-◌, ◌*◌, ℕ, false, List, [], length, Ok, refl}
+use Rattle.std.specs.Prelude.{◌≡◌, ◌+◌, ◌-◌, ◌*◌, ℕ, List, [], length, Ok, refl}
 use Rattle.std.proofs.Common.{ap, ◌∙◌, subst, arith}
 use Rattle.vdisk.specs.Disk.{DiskState}
 use Rattle.vdisk.specs.declared.disk.Disk.{Ghosts}
 use Rattle.meta_log.specs.Opened.{IsOnlyRead}
-use Rattle.table_rules.specs.Marks.{IsFilled}
 use Rattle.volume_inside.specs.Fresh.{fresh_tables}
 use Rattle.volume_inside.specs.Inside.{inside_at}
 use Rattle.volume_inside.specs.InsideOf.{InsideOf}
 use Rattle.volume_inside.specs.Layout.{data_clusters}
 use Rattle.volume_inside.specs.Named.{clusters_of}
-use Rattle.volume_inside.specs.Rules.{RulesHold}
 use Rattle.volume_inside.specs.Typed.{Typed}
 use Rattle.volume_inside.specs.View.{view}
 use Rattle.volume_inside.proofs.Journals.{rules_data}
@@ -18,8 +16,9 @@ use Rattle.volume_tables.specs.Log.{log_epoch, log_place}
 use Rattle.volume_tables.specs.Pending.{settled, pending_of}
 use Rattle.volume_tables.specs.Sizes.{tables_bytes}
 use Rattle.volume_tables.specs.Mount.{read_meta}
-use Rattle.volume_tables.specs.Tables.{tables_now, inside_now, view_now, states_of, disk_of, clusters_in, stopped}
-use Rattle.volume_tables.specs.Tables.{due_of, IsToldBy}
+use Rattle.volume_tables.specs.Mounted.{IsOpened}
+use Rattle.volume_tables.specs.Tables.{tables_now, inside_now, view_now, states_of, disk_of, clusters_in}
+use Rattle.volume_tables.specs.Tables.{IsToldBy}
 use Rattle.volume_tables.specs.declared.tables.Tables.{Tables}
 use Rattle.volume_tables.specs.Sound.{IsSound}
 use Rattle.volume_core.specs.States.{state_at, left_in, IsStateOf, IsFreshState}
@@ -31,24 +30,21 @@ unfolding view
 fresh_view image = refl
 
 module _ {D : Type 0} {d : Ghosts D} (t : Tables D d) where
-  pub found_sound : RulesHold (clusters_in t) (tables_now t)
-      → IsFilled (clusters_in t) (clusters_of (tables_now t)) (states_of t) → IsSound t
-  found_sound rules filled = record {
-    rules = rules;
+  pub found_sound : IsOpened t → IsSound t
+  found_sound opened = record {
+    rules = opened.rules;
     counted = λ runs. filled_counts (clusters_in t) (clusters_of (tables_now t)) (states_of t)
-        (rules_data (clusters_in t) (tables_now t) rules) rules.clusters filled;
+        (rules_data (clusters_in t) (tables_now t) opened.rules) opened.rules.clusters opened.space;
   }
 
   pub shows_no_file : tables_now t ≡ fresh_tables → view_now t ≡ []
   shows_no_file now = ap (λ (q : Typed). view (inside_at q (disk_of t).image)) now ∙ fresh_view (disk_of t).image
 
-module _ {D : Type 0} {d : Ghosts D} (t : Tables D d) (rules : RulesHold (clusters_in t) (tables_now t))
-    (filled : IsFilled (clusters_in t) (clusters_of (tables_now t)) (states_of t)) (runs : stopped t ≡ false)
-    (fresh : t.worn ≡ false) (due : due_of t ≡ 0) where
+module _ {D : Type 0} {d : Ghosts D} (t : Tables D d) (opened : IsOpened t) where
   opened_pending : pending_of t ≡ settled (log_epoch t.log) (log_place t.log) (left_in (state_at t))
-  opened_pending = settled_pending t (found_sound t rules filled) runs fresh due
+  opened_pending = settled_pending t (found_sound t opened) opened.runs opened.fresh opened.due
       (filled_deferred (clusters_in t) (clusters_of (tables_now t)) (states_of t)
-      (rules_data (clusters_in t) (tables_now t) rules) rules.clusters filled)
+      (rules_data (clusters_in t) (tables_now t) opened.rules) opened.rules.clusters opened.space)
 
   all_left : (n : ℕ) → clusters_in t ≡ n → tables_now t ≡ fresh_tables → left_in (state_at t) ≡ data_clusters n
   all_left n clusters now =
