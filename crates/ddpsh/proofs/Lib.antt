@@ -9,5 +9,6 @@ pub mod StageLaws
 pub mod ClockLaws
 pub mod OneRun
 pub mod EpochLaws
+pub mod OpenLaws
 pub mod TopLaws
 pub mod CompleteLaws

@@ -1,5 +1,5 @@
 -- How a volume is opened, and why none is.
-use Rattle.std.specs.Prelude.{◌≡◌, Bool, true, false, ℕ, List}
+use Rattle.std.specs.Prelude.{◌≡◌, ◌⊎◌, Bool, true, false, ℕ, List}
 use Rattle.vdisk.specs.Causes.{Rose}
 use Rattle.vdisk.specs.Disk.{DiskState}
 use Rattle.volume_core.specs.States.{IsStateOf, IsFreshState}
@@ -29,10 +29,11 @@ is_reason mount.Failed = false
 is_reason mount.Memory = false
 is_reason other = true
 
--- how a run ends that was refused a volume
+-- How a run ends that was refused a volume. It ends for want of memory where the volume was not opened for that, or
+-- where the text of the reason wanted some.
 abbrev pub IsRefusedEnd : MountFault → End → Type 0
 IsRefusedEnd fault ends.Device = fault ≡ mount.Failed
-IsRefusedEnd fault ends.Memory = Unit {0}
+IsRefusedEnd fault ends.Memory = (fault ≡ mount.Memory) ⊎ (is_reason fault ≡ true)
 IsRefusedEnd fault (ends.Refused reason) = (reason ≡ fault) × (is_reason fault ≡ true)
 IsRefusedEnd fault other = ⊥
 

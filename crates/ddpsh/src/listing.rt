@@ -63,7 +63,8 @@ pub(crate) fn list<D: Disk>(volume: &Volume<D>, alloc: Global, text: &mut Vec<u8
         };
         match add_line(text, size, name.as_bytes()) {
             Ok(()) => {}
-            Err(_) => return cut_short(2 * count + 2),
+            Err(SessionFault::Memory) => return cut_short(2 * count + 2),
+            Err(_) => unreachable!(),
         }
         last = Some(name);
         count += 1;

@@ -1,11 +1,11 @@
 // A volume is opened: mounted, or made anew.
-ghost use Rattle.std.specs.Prelude.{◌≡◌, ◌≤◌, false, ℕ, IsTrue, IfOk, IfErr};
+ghost use Rattle.std.specs.Prelude.{◌≡◌, ◌≤◌, true, false, ℕ, IsTrue, IfOk, IfErr, OnErr, IsErrOf};
 ghost use Rattle.answer_text.specs.Saying.{IsSaid};
 ghost use Rattle.meta_log.specs.Opened.{IsOnlyRead};
 ghost use Rattle.answer_text.specs.Answers.{Refused, text_of};
 ghost use Rattle.ddpsh.specs.Bounds.{IsFresh};
 ghost use Rattle.ddpsh.specs.Commands.{IsInRange};
-ghost use Rattle.ddpsh.specs.Opens.{Opens, IsOpeningFault, IsRefusedEnd};
+ghost use Rattle.ddpsh.specs.Opens.{Opens, IsOpeningFault, IsRefusedEnd, is_reason};
 ghost use Rattle.ddpsh.specs.Outcomes.{mount_text};
 ghost use Rattle.ddpsh.specs.Served.{volume_state};
 ghost use Rattle.volume_core.specs.Volumes.{device_of, disk_of, view_now, stopped, IsKept};
@@ -44,9 +44,11 @@ pub(crate) fn open<D: Disk>(
     }
 }
 
-/// The answer where no volume was opened.
+/// The answer where the image, or its size, is refused.
 fn refused_mount(text: &mut Vec<u8>, fault: MountFault) -> Result<Answered, SessionFault>
+    requires { is_reason fault ≡ true }
     ensures said { IfOk result (λ a. IsSaid a text.new.items (Refused (mount_text fault))) }
+    ensures memory { OnErr result (IsErrOf result SessionFault.Memory) }
 {
     match fault {
         MountFault::NotVolume => refused(text, b" NotVolume", b""),
@@ -54,8 +56,8 @@ fn refused_mount(text: &mut Vec<u8>, fault: MountFault) -> Result<Answered, Sess
         MountFault::SizeDiffers(said, size) => refused_numbers(text, b" SizeDiffers", said, size),
         MountFault::MetaDamaged(half) => refused_number(text, b" MetaDamaged", half as u64),
         MountFault::BadTable(rule) => refused_number(text, b" BadTable", rule as u64),
-        MountFault::Failed => refused(text, b" Failed", b""),
-        MountFault::Memory => refused(text, b" Memory", b""),
+        MountFault::Failed => unreachable!(),
+        MountFault::Memory => unreachable!(),
     }
 }
 
@@ -69,7 +71,8 @@ pub(crate) fn end_of_refusal(fault: MountFault, text: &mut Vec<u8>) -> End
         MountFault::Memory => End::Memory,
         _ => match refused_mount(text, fault) {
             Ok(_) => End::Refused(fault),
-            Err(_) => End::Memory,
+            Err(SessionFault::Memory) => End::Memory,
+            Err(_) => unreachable!(),
         },
     }
 }

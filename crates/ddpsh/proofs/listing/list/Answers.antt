@@ -55,8 +55,8 @@ unreachable-requires-in_default-stat g c =
     (name_of (view_now c.args.volume.now) c.loop-count.last (Some c.in-Ok-Some.name) c.next_name.result
     (c.in-Ok-Some.is ∙ ap Ok c.in-Ok-Some.field-0-is) own) given c.in_default-stat.is
 
-pub returns-in-Err-add_line-clause-told : goal.returns-in-Err-add_line-clause-told
-returns-in-Err-add_line-clause-told g c =
+pub returns-in-Err-Memory-clause-told : goal.returns-in-Err-Memory-clause-told
+returns-in-Err-Memory-clause-told g c =
     let own = subst
     (λ (o : Option (List ℕ)).
     IsOwnOrMemory (view_now c.args.volume.now) (call.Next o) (name_reply c.next_name.result)
@@ -69,7 +69,7 @@ returns-in-Err-add_line-clause-told g c =
     c.loop-count.text.items c.loop-count.invariant c.in-Ok-Some.name c.in-Ok.size c.stat.result
     (name_of (view_now c.args.volume.now) c.loop-count.last (Some c.in-Ok-Some.name) c.next_name.result
     (c.in-Ok-Some.is ∙ ap Ok c.in-Ok-Some.field-0-is) own) given c.in-Ok.is in
-    rw c.cut_short-in-Err-add_line.ensures
+    rw c.cut_short-in-Err-Memory.ensures
     (broken_line c.args.volume.now (c.loop-count.count + 1) (Some c.in-Ok-Some.name)
     (c.loop-count.text.items ++ file_line c.in-Ok.size c.in-Ok-Some.name) more (2 * c.loop-count.count + 2)
     (omega arith))
@@ -88,7 +88,7 @@ loop-count-preserved g c =
     c.loop-count.text.items c.loop-count.invariant c.in-Ok-Some.name c.in-Ok.size c.stat.result
     (name_of (view_now c.args.volume.now) c.loop-count.last (Some c.in-Ok-Some.name) c.next_name.result
     (c.in-Ok-Some.is ∙ ap Ok c.in-Ok-Some.field-0-is) own) given c.in-Ok.is in
-    let text = c.in-Ok-add_line.ensures
+    let text = c.in-Ok-add_line.ensures.text
     ∙ ap (λ (n : List ℕ). c.loop-count.text.items ++ file_line c.in-Ok.size n) c.as_bytes-in-loop-count.ensures in
     subst
     (λ (x : List ℕ). Listed (view_now c.args.volume.now) (c.loop-count.count + 1) (Some c.in-Ok-Some.name) x)
