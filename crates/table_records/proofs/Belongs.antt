@@ -5,7 +5,8 @@ use Rattle.std.proofs.lemmas.Bool.{false≢true}
 use Rattle.byte_map.specs.Words.{Map}
 use Rattle.table_records.specs.Codecs.{Codec, is_pair_of, IsKeyed}
 use Rattle.table_records.specs.Tables.{volume_codec, name_codec, file_codec, extent_codec, row_codec, place_codec, container_codec, cluster_codec, settings_codec, result_codec}
-use Rattle.table_records.specs.WellFormed.{Shape, shape_of, shapes, is_of, is_of_one, has_number, IsTable, AllWellFormed, BelongsByNumber}
+use Rattle.table_records.specs.Tables.{Shape, shape_of, shapes, has_number, IsTable, row_fixed, place_fixed, container_fixed, cluster_fixed}
+use Rattle.table_records.specs.WellFormed.{is_of, is_of_one, AllWellFormed, BelongsByNumber}
 
 -- ---- tests
 
@@ -21,11 +22,11 @@ pub or_right : (a b : Bool) → b ≡ true → (a || b) ≡ true
 or_right true b p = refl
 or_right false b p = p
 
-neither_left : (a b : Bool) → (a || b) ≡ false → a ≡ false
+pub neither_left : (a b : Bool) → (a || b) ≡ false → a ≡ false
 neither_left true b p = absurd (cc)
 neither_left false b p = refl
 
-neither_right : (a b : Bool) → (a || b) ≡ false → b ≡ false
+pub neither_right : (a b : Bool) → (a || b) ≡ false → b ≡ false
 neither_right true b p = absurd (cc)
 neither_right false b p = p
 
@@ -125,16 +126,16 @@ pub extent_is_table : IsTable extent_codec
 extent_is_table = record { before = take 3 shapes; after = drop 4 shapes; is = refl; once = refl }
 
 pub row_is_table : IsTable row_codec
-row_is_table = record { before = take 4 shapes; after = drop 5 shapes; is = refl; once = refl }
+row_is_table = row_fixed.table
 
 pub place_is_table : IsTable place_codec
-place_is_table = record { before = take 5 shapes; after = drop 6 shapes; is = refl; once = refl }
+place_is_table = place_fixed.table
 
 pub container_is_table : IsTable container_codec
-container_is_table = record { before = take 6 shapes; after = drop 7 shapes; is = refl; once = refl }
+container_is_table = container_fixed.table
 
 pub cluster_is_table : IsTable cluster_codec
-cluster_is_table = record { before = take 7 shapes; after = drop 8 shapes; is = refl; once = refl }
+cluster_is_table = cluster_fixed.table
 
 pub settings_are_table : IsTable settings_codec
 settings_are_table = record { before = take 8 shapes; after = drop 9 shapes; is = refl; once = refl }

@@ -5,6 +5,7 @@ pub mod Results
 pub mod Texts
 pub mod Settings
 pub mod Values
+pub mod KeySizes
 pub mod Tables
 pub mod Laws
 pub mod Next

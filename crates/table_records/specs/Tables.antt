@@ -1,5 +1,6 @@
--- The tables. A further table is a row here, a row of what is well formed, and its code.
-use Rattle.std.specs.Prelude.{◌≡◌, ◌<◌, ◌+◌, ℕ, nat_lt, true, List}
+-- The tables. A further one is a codec here, a line in the list of all, and its code.
+use Rattle.std.specs.Prelude.{◌≡◌, ◌<◌, ◌+◌, ◌||◌, ◌++◌, ℕ, Bool, true, false, nat_eq, nat_lt, List, [], ◌∷◌, take, drop}
+use Rattle.std.specs.Prelude.{Some, length, is_some, get_or, refl}
 use Rattle.std.proofs.Common.{arith, ltb-true}
 use Rattle.std.specs.Ordering.{nat_cmp}
 use Rattle.std.specs.Cmp.{nat_cmp_total}
@@ -16,7 +17,8 @@ use Rattle.table_records.specs.declared.jobs.JobKind.{JobKind}
 use Rattle.table_records.specs.declared.settings.Settings.{Settings}
 use Rattle.table_records.specs.Codecs.{Codec}
 use Rattle.table_records.specs.Keys.{number_in, pair_in, nothing_in, all_in, kind_in, single_key, number_key, pair_key, bytes_key, kind_key, single_cmp, pair_cmp, kind_cmp}
-use Rattle.table_records.specs.Orders.{number_ordered, pair_ordered, pair_total, nothing_ordered, single_total, all_ordered, kind_ordered, kind_total, behind_numbered, behind_ordered}
+use Rattle.table_records.specs.Orders.{number_ordered, pair_ordered, pair_total, nothing_ordered, single_total, all_ordered, kind_ordered, kind_total, behind_numbered, behind_ordered, key_numbered}
+use Rattle.table_records.specs.KeySizes.{number_size, pair_size, has_size}
 use Rattle.table_records.specs.Settings.{settings_or_empty, is_settings}
 use Rattle.table_records.specs.Values.{has_length, volume_in, id_in, file_in, extent_in, row_in, place_in, container_in, cluster_in, result_in}
 
@@ -158,4 +160,85 @@ settings_codec = record {
   total = single_total;
   ordered = behind_ordered 9 nothing_in single_cmp nothing_ordered;
   numbered = behind_numbered 9 nothing_in;
+}
+
+-- ---- all tables
+
+-- How the pairs of a table are spelled: its number, with which each of its keys begins, and which bytes are its keys
+-- and its values.
+pub record Shape : Type 0 where
+  pub number : ℕ
+  pub is_key : List ℕ → Bool
+  pub is_value : List ℕ → Bool
+  pub numbered : (b : List ℕ) → is_key b ≡ true → get_or b 0 0 ≡ number
+
+abbrev pub shape_of : {K V : Type 0} → Codec K V → Shape
+shape_of {K} c = record {
+  number = c.number;
+  is_key = λ b. is_some (c.read_key b);
+  is_value = c.is_value;
+  numbered = λ b is. key_numbered c.number c.read_key c.numbered b is;
+}
+
+-- ALL TABLES. A further one is a line here, and one in `is_well_formed` of the code.
+abbrev pub shapes : List Shape
+shapes =
+    shape_of volume_codec
+    ∷ shape_of name_codec
+    ∷ shape_of file_codec
+    ∷ shape_of extent_codec
+    ∷ shape_of row_codec
+    ∷ shape_of place_codec
+    ∷ shape_of container_codec
+    ∷ shape_of cluster_codec
+    ∷ shape_of settings_codec
+    ∷ shape_of result_codec
+    ∷ []
+
+-- a table of this number is one of these
+abbrev pub has_number : ℕ → List Shape → Bool
+has_number n [] = false
+has_number n (s ∷ ss) = nat_eq s.number n || has_number n ss
+
+-- the table is one of all, and none of the others has its number
+pub record IsTable {K V : Type 0} (c : Codec K V) : Type 0 where
+  pub before : List Shape
+  pub after : List Shape
+  pub is : shapes ≡ before ++ (shape_of c ∷ after)
+  pub once : has_number c.number (before ++ after) ≡ false
+
+-- ---- tables whose records all have as many bytes
+
+-- The table is one of all, its keys have so many bytes, and its values so many.
+pub record IsFixed {K V : Type 0} (c : Codec K V) (long size : ℕ) : Type 0 where
+  pub table : IsTable c
+  pub keys : (b : List ℕ) (k : K) → c.read_key b ≡ Some k → length b ≡ long
+  pub values : (b : List ℕ) → c.is_value b ≡ true → length b ≡ size
+
+pub row_fixed : IsFixed row_codec 9 50
+row_fixed = record {
+  table = record { before = take 4 shapes; after = drop 5 shapes; is = refl; once = refl };
+  keys = number_size 5 8;
+  values = has_size 50;
+}
+
+pub place_fixed : IsFixed place_codec 10 12
+place_fixed = record {
+  table = record { before = take 5 shapes; after = drop 6 shapes; is = refl; once = refl };
+  keys = pair_size 6 8 1;
+  values = has_size 12;
+}
+
+pub container_fixed : IsFixed container_codec 9 5
+container_fixed = record {
+  table = record { before = take 6 shapes; after = drop 7 shapes; is = refl; once = refl };
+  keys = number_size 7 8;
+  values = has_size 5;
+}
+
+pub cluster_fixed : IsFixed cluster_codec 13 4
+cluster_fixed = record {
+  table = record { before = take 7 shapes; after = drop 8 shapes; is = refl; once = refl };
+  keys = pair_size 8 8 4;
+  values = has_size 4;
 }

@@ -1,8 +1,8 @@
 //! Which pairs of the map are keys and values of the tables.
 
 ghost use Rattle.std.specs.Prelude.{◌≡◌, ◌↔◌, IsTrue};
-ghost use Rattle.table_records.specs.Tables.{name_codec, settings_codec};
-ghost use Rattle.table_records.specs.WellFormed.{IsWellFormed, is_of, shape_of};
+ghost use Rattle.table_records.specs.Tables.{name_codec, settings_codec, shape_of};
+ghost use Rattle.table_records.specs.WellFormed.{IsWellFormed, is_of};
 
 use crate::chunk_tables::{ClusterTable, ContainerTable, PlaceTable, RowTable};
 use crate::names::NameTable;

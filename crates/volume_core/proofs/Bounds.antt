@@ -41,7 +41,7 @@ use Rattle.volume_inside.specs.Rules.{next_id_of}
 use Rattle.volume_inside.specs.Typed.{Typed, FileBlock}
 use Rattle.volume_inside.specs.View.{named_cells, view}
 use Rattle.volume_tables.specs.Log.{log_now, log_epoch, log_place}
-use Rattle.volume_tables.specs.Sizes.{name_bytes, setting_bytes}
+use Rattle.volume_tables.specs.Sizes.{name_bytes, setting_bytes, chunk_bytes}
 use Rattle.volume_tables.specs.Spending.{Aside}
 use Rattle.volume_tables.specs.Tables.{tables_now, inside_now, checkpoint_of, would_wear, due_of}
 use Rattle.volume_tables.proofs.Answers.{as_true}
@@ -159,10 +159,7 @@ module _ {D : Type 0} {d : Ghosts D} (v : Mounted D d) (b i : ℕ) (has : HasSpe
       ap (λ (es : List (JobKind × ResultRecord)). length es) v.tables.contents.ends_there in
       let settings : setting_bytes (typed settings_codec (log_now v.tables.log)) ≡ 24 =
       ap (λ (p : Aside). setting_bytes p.0) has.same in
-      let rows = ap (λ (p : Aside). length p.1.rows) has.same in
-      let places = ap (λ (p : Aside). length p.1.places) has.same in
-      let containers = ap (λ (p : Aside). length p.1.containers) has.same in
-      let pages = ap (λ (p : Aside). length p.1.clusters) has.same in
+      let chunks : chunk_bytes (tables_now v.tables).chunks ≡ 0 = ap (λ (p : Aside). chunk_bytes p.1) has.same in
       let files : length (typed file_codec (log_now v.tables.log)) ≤ length (typed name_codec (log_now v.tables.log)) =
       files_named (typed file_codec (log_now v.tables.log)) (typed name_codec (log_now v.tables.log))
       (sorted_typed file_codec (log_now v.tables.log) (as_true v.tables.contents.sorted)) v.sound.rules.names.once in
@@ -173,10 +170,7 @@ module _ {D : Type 0} {d : Ghosts D} (v : Mounted D d) (b i : ℕ) (has : HasSpe
         one,
         four,
         settings,
-        rows,
-        places,
-        containers,
-        pages,
+        chunks,
         files,
         clusters,
         has.clusters,

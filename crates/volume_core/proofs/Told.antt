@@ -27,7 +27,7 @@ use Rattle.volume_inside.specs.ChunkTables.{ChunkTables, CopyKey, PageKey}
 use Rattle.volume_inside.specs.Chunks.{copies_of}
 use Rattle.volume_inside.specs.Pages.{page_clusters}
 use Rattle.volume_inside.specs.Entries.{Each, each_weaker}
-use Rattle.volume_inside.specs.Inside.{cluster_bytes, block_of, blocks_of, pages_in, inside_at}
+use Rattle.volume_inside.specs.Inside.{cluster_bytes, block_of, blocks_of, pages_in, inside_at, places_told, pages_told}
 use Rattle.volume_inside.specs.Layout.{half_bytes, data_clusters}
 use Rattle.volume_inside.specs.Named.{extent_clusters, clusters_of}
 use Rattle.volume_inside.specs.Rules.{next_id_of, ExtentHolds}
@@ -42,7 +42,7 @@ use Rattle.volume_files.specs.Lengths.{for_file, length_of, length_wants}
 use Rattle.volume_files.specs.Needs.{create_needs, rename_needs, delete_needs, write_needs, length_needs}
 use Rattle.volume_files.specs.Needs.{missing, one_if_none, names_more, first_touched, touched}
 use Rattle.volume_files.specs.Writing.{write_wants, ReadsFirst}
-use Rattle.volume_core.specs.States.{extents_told, places_told, pages_told, tables_told, left_in, wanting_in, write_wants_in, length_wants_in}
+use Rattle.volume_core.specs.States.{extents_told, tables_told, left_in, wanting_in, write_wants_in, length_wants_in}
 use Rattle.volume_core.specs.States.{state_at, state_of}
 use Rattle.volume_core.specs.Volumes.{view_now}
 use Rattle.volume_core.specs.Moves.{ReadsABlock}

@@ -12,11 +12,9 @@ use Rattle.plain_volume.specs.declared.call.Call.TheVariants.{Create, Write, Set
 use Rattle.plain_volume.specs.declared.call.Call.TheVariants.{Stat, Next, Flush}
 use Rattle.plain_volume.specs.declared.call.Fault.{Fault}
 use Rattle.plain_volume.specs.declared.call.Fault.TheVariants.{Worn, TableFull, Full}
-use Rattle.table_records.specs.declared.chunk_records.Place.{Place}
 use Rattle.table_records.specs.declared.records.Extent.{Extent}
-use Rattle.volume_inside.specs.ChunkTables.{CopyKey, PageKey}
 use Rattle.volume_inside.specs.Fresh.{fresh_tables}
-use Rattle.volume_inside.specs.Inside.{Inside, inside_at}
+use Rattle.volume_inside.specs.Inside.{Inside, inside_at, chunks_told}
 use Rattle.volume_inside.specs.InsideOf.{InsideOf}
 use Rattle.volume_inside.specs.Layout.{journal_at, half_bytes, data_clusters}
 use Rattle.volume_inside.specs.Rules.{next_id_of}
@@ -52,16 +50,6 @@ abbrev pub extents_told : List (FileBlock × List ℕ) → List (FileBlock × Ex
 extents_told [] = []
 extents_told (e ∷ blocks) = (e.0, record { cluster = 0; valid = length e.1 }) ∷ extents_told blocks
 
--- the copies of rows, whose places are not told
-abbrev pub places_told : List (CopyKey × List ℕ) → List (CopyKey × Place)
-places_told [] = []
-places_told (e ∷ copies) = (e.0, record { container = 0; offset = 0 }) ∷ places_told copies
-
--- the pages of containers, whose clusters are not told
-abbrev pub pages_told : List PageKey → List (PageKey × ℕ)
-pages_told [] = []
-pages_told (k ∷ pages) = (k, 0) ∷ pages_told pages
-
 -- the tables that an inside tells: each block is an extent of its bytes, whose cluster is not told, and no place of a
 -- copy or a page is
 abbrev pub tables_told : Inside → Typed
@@ -70,12 +58,7 @@ tables_told i = record {
   names = i.names;
   files = i.files;
   extents = extents_told i.blocks;
-  chunks = record {
-    rows = i.bases.rows;
-    places = places_told i.bases.copies;
-    containers = i.containers;
-    clusters = pages_told i.pages;
-  };
+  chunks = chunks_told i;
   settings = i.settings;
   results = i.results;
 }

@@ -2,7 +2,8 @@
 use Rattle.std.specs.Prelude.{ℕ, List, [], ◌∷◌, codes}
 use Rattle.table_records.specs.declared.records.FileRecord.{FileRecord}
 use Rattle.volume_inside.specs.Fresh.{fresh_settings}
-use Rattle.volume_inside.specs.Inside.{Inside}
+use Rattle.volume_inside.specs.Inside.{Inside, inside_at}
+use Rattle.volume_inside.specs.Typed.{typed_of}
 use Rattle.volume_files.specs.Insides.{Blocks}
 
 -- a file of so many bytes
@@ -11,16 +12,12 @@ file_of length = record { length = length; map_row = 0; covers = 0 }
 
 -- a volume with these files and blocks that draws this id next
 abbrev pub small_volume : ℕ → List (List ℕ × ℕ) → List (ℕ × FileRecord) → Blocks → Inside
-small_volume next_id names files blocks = record {
+small_volume next_id names files blocks = record (inside_at (typed_of []) []) {
   volume = (tt, record { version = 1; next_id = next_id }) ∷ [];
   names = names;
   files = files;
   blocks = blocks;
-  bases = record { rows = []; copies = [] };
-  containers = [];
-  pages = [];
   settings = (tt, fresh_settings) ∷ [];
-  results = [];
 }
 
 -- one file, `a`, of so many bytes

@@ -4,6 +4,7 @@ pub mod Ready
 pub mod Lists
 pub mod Staged
 pub mod StagedPut
+pub mod Weighed
 pub mod WellFormed
 pub mod Puts
 pub mod Kept

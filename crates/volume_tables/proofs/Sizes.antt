@@ -1,35 +1,25 @@
 -- The bytes of keys.
-use Rattle.std.specs.Prelude.{◌≡◌, ◌≤◌, ◌+◌, ℕ, List, [], ◌∷◌, length, take, drop, Option, Some, None, refl}
+use Rattle.std.specs.Prelude.{◌≡◌, ◌≤◌, ◌+◌, ℕ, List, [], ◌∷◌, length, Option, Some, None, refl}
 use Rattle.std.specs.Prelude.{IfSome}
 use Rattle.std.specs.Option.{option_map}
-use Rattle.std.proofs.Common.{Bor, ap, arith, length-take, length-drop}
-use Rattle.byteorder.specs.Endian.{big_bytes}
-use Rattle.byteorder.specs.Numbers.{length-bytes_high_first}
-use Rattle.table_records.specs.Keys.{number_in, pair_in, number_key, pair_key, both, nothing_in, kind_in, all_in}
-use Rattle.table_records.specs.Orders.{behind_means, number_means, some_same}
+use Rattle.std.proofs.Common.{Bor, ap, arith}
+use Rattle.table_records.specs.Keys.{nothing_in, kind_in, all_in}
+use Rattle.table_records.specs.KeySizes.{number_size, pair_size}
+use Rattle.table_records.specs.Orders.{behind_means, some_same}
 use Rattle.table_records.specs.Codecs.{Codec}
 use Rattle.table_records.specs.Changes.{EndsRange}
 use Rattle.table_records.specs.Tables.{name_codec, file_codec, extent_codec, volume_codec, settings_codec, result_codec}
 use Rattle.table_records.specs.Tables.{row_codec, place_codec, container_codec, cluster_codec}
 use Rattle.table_records.specs.declared.jobs.JobKind.{JobKind}
 
--- of a table of this number, whose keys are numbers of eight bytes
-number_size : (number : ℕ) (b : List ℕ) (k : ℕ) → number_key number 8 b ≡ Some k → length b ≡ 9
-number_size number b k is =
-    let from = behind_means number (number_in 8) b k is in
-    let rest : length (big_bytes 8 k) ≡ length from.0 = ap (λ (l : List ℕ). length l)
-    (number_means 8 from.0 k from.2).1 in
-    let whole : length b ≡ length (number ∷ from.0) = ap (λ (l : List ℕ). length l) from.1 in
-    omega (arith, rest, whole)
-
 pub file_key : (b : List ℕ) (k : ℕ) → file_codec.read_key b ≡ Some k → length b ≡ 9
-file_key b k is = number_size 3 b k is
+file_key b k is = number_size 3 8 b k is
 
 pub row_key : (b : List ℕ) (k : ℕ) → row_codec.read_key b ≡ Some k → length b ≡ 9
-row_key b k is = number_size 5 b k is
+row_key b k is = number_size 5 8 b k is
 
 pub container_key : (b : List ℕ) (k : ℕ) → container_codec.read_key b ≡ Some k → length b ≡ 9
-container_key b k is = number_size 7 b k is
+container_key b k is = number_size 7 8 b k is
 
 pub name_key : (b k : List ℕ) → name_codec.read_key b ≡ Some k → length b ≡ length k + 1
 name_key b k is =
@@ -38,33 +28,6 @@ name_key b k is =
     let rest = ap (λ (l : List ℕ). length l) same in
     let whole : length b ≡ length (2 ∷ from.0) = ap (λ (l : List ℕ). length l) from.1 in
     omega (arith, rest, whole)
-
--- of a table of this number, whose keys are two numbers of so many bytes
-pair_size : (number m n : ℕ) (b : List ℕ) (k : ℕ × ℕ) → pair_key number m n b ≡ Some k → length b ≡ 1 + (m + n)
-pair_size number m n b k is =
-    let from = behind_means number (pair_in m n) b k is in
-    let rest = by from.0 (number_in m (take m from.0)) (number_in n (drop m from.0)) refl refl from.2 in
-    let whole : length b ≡ length (number ∷ from.0) = ap (λ (l : List ℕ). length l) from.1 in
-    omega (arith, rest, whole)
-  where
-    by : (b : List ℕ) (o p : Option ℕ) → number_in m (take m b) ≡ o → number_in n (drop m b) ≡ p → both o p ≡ Some k
-        → length b ≡ m + n
-    by b None p x y is = absurd (cc)
-    by b (Some i) None x y is = absurd (cc)
-    by b (Some i) (Some j) x y is =
-        let low : length (big_bytes m i) ≡ length (take m b) = ap (λ (l : List ℕ). length l)
-        (number_means m (take m b) i x).1 in
-        let high : length (big_bytes n j) ≡ length (drop m b) = ap (λ (l : List ℕ). length l)
-        (number_means n (drop m b) j y).1 in
-        omega (
-          arith,
-          low,
-          high,
-          length-bytes_high_first m i,
-          length-bytes_high_first n j,
-          length-take m b,
-          length-drop m b,
-        )
 
 pub extent_key : (b : List ℕ) (k : ℕ × ℕ) → extent_codec.read_key b ≡ Some k → length b ≡ 13
 extent_key b k is = pair_size 4 8 4 b k is

@@ -12,7 +12,7 @@ use Rattle.byte_map.specs.Laws.{length_put_new, length_put_present, bytes_in_put
 use Rattle.byte_map.specs.Laws.{length_without, bytes_in_without}
 use Rattle.table_records.specs.Codecs.{Codec, typed}
 use Rattle.table_records.specs.Laws.{find_typed}
-use Rattle.table_records.specs.WellFormed.{IsTable}
+use Rattle.table_records.specs.Tables.{IsTable}
 pub use Rattle.table_records.proofs.Belongs.{apart, or_right}
 use Rattle.table_records.proofs.Belongs.{own_pair, pair_joins, volume_is_table, name_is_table, file_is_table, extent_is_table}
 use Rattle.table_records.proofs.Belongs.{row_is_table, place_is_table, container_is_table, cluster_is_table}
@@ -32,7 +32,7 @@ pub record IsEntryTable {K V : Type 0} (c : Codec K V) (size : ℕ) : Type 0 whe
   pub sized : (value : List ℕ) → c.is_value value ≡ true → length value ≡ size
 
 -- a table of all, whose values have one length
-entry_table : {K V : Type 0} (c : Codec K V) (size : ℕ) → IsTable c
+pub entry_table : {K V : Type 0} (c : Codec K V) (size : ℕ) → IsTable c
     → ((value : List ℕ) → c.is_value value ≡ true → length value ≡ size) → IsEntryTable c size
 entry_table c size table sized = record { own = own_pair c table; joins = pair_joins c table; sized = sized }
 

@@ -2,7 +2,7 @@
 use Rattle.std.specs.Prelude.{◌+◌, ◌*◌, ℕ, List, [], ◌∷◌, length}
 use Rattle.table_records.specs.Texts.{list_bytes}
 use Rattle.table_records.specs.declared.settings.Settings.{Settings}
-use Rattle.volume_inside.specs.ChunkTables.{ChunkTables}
+use Rattle.volume_inside.specs.ChunkTables.{ChunkTables, sum_of}
 use Rattle.volume_inside.specs.Typed.{Typed}
 
 -- two flags, three numbers of four bytes, and two lists behind their counts
@@ -29,12 +29,13 @@ abbrev pub setting_bytes : List (Unit {0} × Settings) → ℕ
 setting_bytes [] = 0
 setting_bytes (e ∷ es) = 6 + (settings_size e.1 + setting_bytes es)
 
--- 64 bytes of each row, 27 of each place of a copy, 19 of each container and 22 of each cluster of one
+-- of each entry of a table of chunks five bytes, those of its key and those of its value: 64 of each row, 27 of each
+-- place of a copy, 19 of each container and 22 of each cluster of one
 abbrev pub chunk_bytes : ChunkTables → ℕ
-chunk_bytes t = 64 * length t.rows + (27 * length t.places + (19 * length t.containers + 22 * length t.clusters))
+chunk_bytes t = sum_of (λ K V c long size fixed es. (5 + (long + size)) * length es) t
 
 abbrev pub chunks_in : ChunkTables → ℕ
-chunks_in t = length t.rows + (length t.places + (length t.containers + length t.clusters))
+chunks_in t = sum_of (λ K V c long size fixed es. length es) t
 
 -- the bytes of a checkpoint of tables, behind a head of 45 bytes
 abbrev pub tables_bytes : Typed → ℕ

@@ -2,7 +2,8 @@
 use Rattle.std.specs.Prelude.{◌&&◌, Bool, true, List, [], ◌∷◌, ℕ}
 use Rattle.byte_map.specs.Words.{Map}
 pub use Rattle.table_records.specs.Codecs.{is_pair_of}
-use Rattle.table_records.specs.WellFormed.{shapes, is_of_one}
+use Rattle.table_records.specs.Tables.{shapes}
+use Rattle.table_records.specs.WellFormed.{is_of_one}
 
 -- bytes are a key and a value of one of the tables
 abbrev pub is_well_formed : List ℕ → List ℕ → Bool
