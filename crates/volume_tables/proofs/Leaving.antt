@@ -33,6 +33,7 @@ use Rattle.volume_tables.specs.Clusters.{with_spare}
 use Rattle.volume_tables.specs.Staging.{IsQuiet}
 use Rattle.volume_tables.specs.Tables.{disk_of, area_of, states_of, tables_now, IsTables, Leaves, IsSet, IsLogSet}
 use Rattle.volume_tables.specs.declared.tables.Tables.{Tables}
+pub use Rattle.volume_tables.specs.After.{area_same, leaves_then}
 use Rattle.volume_tables.proofs.Tailed.{pages_of_tables, same_tails}
 
 used_is_not_free : Used ≢ Free
@@ -159,9 +160,6 @@ named_state n states t held size c named =
 -- ---- calls
 
 module _ {D : Type 0} {d : Ghosts D} where
-  pub area_same : (a b : Tables D d) → b.clusters ≡ a.clusters → area_of b ≡ area_of a
-  area_same a b clusters = λ i. record { clusters = clusters i; meta = meta_of journal_at (half_bytes (clusters i)) }
-
   -- a call of the space alone
   pub space_leaves : (a b : Tables D d) → b.log ≡ a.log → b.clusters ≡ a.clusters → b.ends ≡ a.ends → b.worn ≡ a.worn
       → (new : List State) → states_of b ≡ new → IsNoFreer (states_of a) new → d.is_same a.log.disk a.log.disk → Leaves a b
@@ -227,27 +225,6 @@ module _ {D : Type 0} {d : Ghosts D} where
       → pages_of_tables (typed_of (log_now s.log)) ≡ pages_of_tables (typed_of (log_now t.log)) → Leaves t s
   quiet_leaves t s quiet clusters space worn ends self same =
       drop_leaves t s quiet clusters (λ k at. subst (λ (xs : List State). IsIn xs k Free) space at) worn ends self same
-
-  pub leaves_then : (next : (x y z : D) → d.is_same x y → d.is_same y z → d.is_same x z) (a b c : Tables D d)
-      → Leaves a b → Leaves b c → Leaves a c
-  leaves_then next a b c first second = record {
-    clusters = second.clusters ∙ first.clusters;
-    tables = λ stored is. second.tables stored (first.tables stored is);
-    moments = λ stored w is kept.
-        let one = first.moments stored w is kept in
-        let area = area_same a b first.clusters in
-        let two : Keeps (disk_of b) (disk_of c) (Shows (area_of a) w) = subst
-        (λ (x : Area). Keeps (disk_of b) (disk_of c) (Shows x w)) area
-        (second.moments stored w (first.tables stored is)
-        (subst (λ (x : Area). Kept x (disk_of b) w) (sym area) one.now)) in
-        keeps_then (disk_of a) (disk_of b) (disk_of c) (Shows (area_of a) w) one two;
-    same = next a.log.disk b.log.disk c.log.disk first.same second.same;
-    later = omega (arith, first.later, second.later);
-    place = second.place ∙ first.place;
-    epoch = second.epoch ∙ first.epoch;
-    ends = second.ends ∙ first.ends;
-    worn = second.worn ∙ first.worn;
-  }
 
   -- a cluster was put in the place of another
   pub replaced_ready : (t u : Tables D d) (o c : ℕ)

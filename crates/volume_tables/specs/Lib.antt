@@ -23,5 +23,6 @@ pub mod Commits
 pub mod Wants
 pub mod Rooms
 pub mod Reads
+pub mod After
 pub mod Stages
 pub mod Spending

@@ -1,7 +1,8 @@
 -- What a call that only reads leaves.
 use Rattle.std.specs.Prelude.{◌≡◌}
 use Rattle.vdisk.specs.declared.disk.Disk.{Ghosts}
-use Rattle.volume_tables.specs.Tables.{tables_now, disk_of, states_of, staged_of, checkpoint_of, stopped, Leaves}
+use Rattle.volume_inside.specs.Typed.{Typed}
+use Rattle.volume_tables.specs.Tables.{tables_now, disk_of, states_of, staged_of, checkpoint_of, stopped, IsTables, Leaves}
 use Rattle.volume_tables.specs.declared.tables.Tables.{Tables}
 
 module _ {D : Type 0} {d : Ghosts D} where
@@ -15,3 +16,7 @@ module _ {D : Type 0} {d : Ghosts D} where
     pub staged : staged_of new ≡ staged_of old
     pub checkpoint : checkpoint_of new ≡ checkpoint_of old
     pub running : stopped new ≡ stopped old
+
+  -- what is stored is known, as over a disk that tells what it holds
+  abbrev pub IsTold : Tables D d → Type 0
+  IsTold t = (stored : Typed) × IsTables t stored

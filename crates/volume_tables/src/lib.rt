@@ -25,6 +25,7 @@ mod raw_pages;
 mod raw_settings;
 mod results;
 mod room;
+mod row_disk;
 mod rows;
 mod settings;
 mod tables;
