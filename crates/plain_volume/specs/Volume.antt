@@ -6,7 +6,7 @@ use Rattle.std.specs.FinMap.Entries.{find, put, where_key, is_sorted}
 use Rattle.std.specs.Ordering.{eq_by_cmp, is_lt}
 use Rattle.std.specs.List.{list_all}
 use Rattle.std.specs.declared.cmp.Ordering.{Ordering}
-use Rattle.plain_volume.specs.declared.limits.TheConstants.{MOST_FILES, MOST_BYTES_OF_A_FILE, MOST_BYTES_OF_A_NAME}
+use Rattle.plain_volume.specs.declared.limits.TheConstants.{MOST_FILES, MOST_BYTES_OF_A_FILE, MOST_BYTES_OF_A_NAME, BLOCK_BYTES}
 
 pub data Cell : Type 0 where
   Byte : ℕ → Cell
@@ -72,10 +72,11 @@ lost_where test n (Lost ∷ cells) = if test n then Some n else lost_where test 
 abbrev pub is_within : ℕ → ℕ → ℕ → Bool
 is_within at len p = nat_le at p && nat_lt p (at + len)
 
--- a cell beside a written range, in the block of its first or last byte; blocks are of 4096 bytes
+-- a cell beside a written range, in the block of its first or last byte
 abbrev pub is_beside : ℕ → ℕ → ℕ → Bool
 is_beside at len p =
-    (p / 4096 == at / 4096 || p / 4096 == (at + len - 1) / 4096) && (nat_lt p at || nat_le (at + len) p)
+    (p / BLOCK_BYTES == at / BLOCK_BYTES || p / BLOCK_BYTES == (at + len - 1) / BLOCK_BYTES)
+    && (nat_lt p at || nat_le (at + len) p)
 
 -- the bytes of cells that are not lost
 abbrev pub bytes_of : List Cell → List ℕ

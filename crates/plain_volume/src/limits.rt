@@ -2,6 +2,9 @@
 
 use groundwork::MOST_NAME_BYTES;
 
+/// The bytes of a block of a file, and so of a cluster of an image, which holds one.
+pub const BLOCK_BYTES: u64 = 4_096;
+
 /// The most files of a volume.
 pub const MOST_FILES: u64 = 65_536;
 

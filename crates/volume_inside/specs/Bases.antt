@@ -4,6 +4,7 @@ use Rattle.std.specs.Prelude.{◌≡◌, ◌*◌, ℕ, Bool, true, false, nat_lt
 use Rattle.std.proofs.Common.{arith, ltb-true}
 use Rattle.plain_volume.specs.Volume.{Cell, Byte}
 use Rattle.table_records.specs.declared.records.FileRecord.{FileRecord}
+use Rattle.volume_inside.specs.declared.layout.TheConstants.{CLUSTER_BYTES}
 use Rattle.volume_inside.specs.Typed.{Typed}
 use Rattle.volume_inside.specs.Layout.{journal_at, half_bytes, AreData}
 use Rattle.volume_inside.specs.Lists.{IsOut}
@@ -35,7 +36,7 @@ pub bases_agree : (t : Typed) (old new : List ℕ) → AgreesIn (base_ranges t) 
 bases_agree t old new agrees = chunks_agree t.chunks old new agrees
 
 -- a cluster that no base names has no byte in their ranges
-pub bases_unnamed : (c : ℕ) (t : Typed) → IsOut c (base_clusters t) → IsApart (4096 * c) 4096 (base_ranges t)
+pub bases_unnamed : (c : ℕ) (t : Typed) → IsOut c (base_clusters t) → IsApart (CLUSTER_BYTES * c) CLUSTER_BYTES (base_ranges t)
 bases_unnamed c t out = pages_unnamed c t.chunks.containers t.chunks.clusters out
 
 -- bases whose clusters are data clusters have no byte in the journal

@@ -4,6 +4,7 @@ use Rattle.std.specs.Ordering.{nat_cmp}
 use Rattle.std.specs.FinMap.{find}
 use Rattle.table_records.specs.Keys.{pair_cmp}
 use Rattle.table_records.specs.declared.chunk_records.Row.{Row}
+use Rattle.volume_inside.specs.declared.layout.TheConstants.{CLUSTER_BYTES}
 use Rattle.volume_inside.specs.ChunkTables.{ChunkTables}
 use Rattle.volume_inside.specs.Pages.{used_of}
 use Rattle.volume_inside.specs.Chunks.{Bases, if_sound, own_chunk}
@@ -11,13 +12,13 @@ use Rattle.volume_inside.specs.Chunks.{Bases, if_sound, own_chunk}
 -- u has the pages of t, and may use more bytes
 pub record Grows (t u : ChunkTables) (c : ℕ) : Type 0 where
   pub used : used_of t.containers c ≤ used_of u.containers c
-  pub clusters : (index : ℕ) → 4096 * index < used_of t.containers c
+  pub clusters : (index : ℕ) → CLUSTER_BYTES * index < used_of t.containers c
       → find pair_cmp (c, index) u.clusters ≡ find pair_cmp (c, index) t.clusters
 
 -- each page of a container is there, and lies in the image
 abbrev pub HasPages : ChunkTables → ℕ → List ℕ → Type 0
-HasPages t c image = (index : ℕ) → 4096 * index < used_of t.containers c
-    → (cluster : ℕ) × (find pair_cmp (c, index) t.clusters ≡ Some cluster) × (4096 * cluster + 4096 ≤ length image)
+HasPages t c image = (index : ℕ) → CLUSTER_BYTES * index < used_of t.containers c
+    → (cluster : ℕ) × (find pair_cmp (c, index) t.clusters ≡ Some cluster) × (CLUSTER_BYTES * cluster + CLUSTER_BYTES ≤ length image)
 
 -- c has the rows that b has, each with the copies that it has there
 pub record Extends (b c : Bases) : Type 0 where

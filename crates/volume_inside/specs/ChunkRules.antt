@@ -12,6 +12,8 @@ use Rattle.volume_inside.specs.Entries.{Each}
 use Rattle.table_records.specs.declared.chunk_records.Row.{Row}
 use Rattle.table_records.specs.declared.chunk_records.Place.{Place}
 use Rattle.table_records.specs.declared.chunk_records.Container.{Container}
+use Rattle.volume_inside.specs.declared.chunk_rules.TheConstants.{DATA_ROW, ENTRY_BYTES, HOT_CONTAINER, MAP_ROW, MOST_CHUNK_BYTES, MOST_CONTAINER_BYTES, MOST_MAP_BYTES, PARTITIONS}
+use Rattle.volume_inside.specs.declared.layout.TheConstants.{CLUSTER_BYTES}
 use Rattle.volume_inside.specs.ChunkTables.{ChunkTables, CopyKey, PageKey}
 use Rattle.volume_inside.specs.Pages.{page_clusters, used_of}
 use Rattle.volume_inside.specs.Chunks.{Bases, chunk}
@@ -25,7 +27,7 @@ pub record CoverHolds (file : FileRecord) : Type 0 where
   pub no_cover : file.map_row ≡ 0 → file.covers ≡ 0
 
 abbrev pub IsMapRow : Row → Type 0
-IsMapRow row = row.kind ≡ 2
+IsMapRow row = row.kind ≡ MAP_ROW
 
 abbrev pub MapRowHolds : List (ℕ × Row) → ℕ → FileRecord → Type 0
 MapRowHolds rows id file = (file.map_row ≡ 0 → ⊥) → IsSomeAnd (find nat_cmp file.map_row rows) IsMapRow
@@ -34,13 +36,13 @@ MapRowHolds rows id file = (file.map_row ≡ 0 → ⊥) → IsSomeAnd (find nat_
 
 pub record IsDataRow (row : Row) : Type 0 where
   pub some_bytes : 1 ≤ row.length
-  pub short : row.length ≤ 131072
-  pub part : row.partition < 8
+  pub short : row.length ≤ MOST_CHUNK_BYTES
+  pub part : row.partition < PARTITIONS
 
 pub record IsMapRecord (row : Row) : Type 0 where
-  pub some_entry : 12 ≤ row.length
-  pub short : row.length ≤ 393216
-  pub entries : row.length % 12 ≡ 0
+  pub some_entry : ENTRY_BYTES ≤ row.length
+  pub short : row.length ≤ MOST_MAP_BYTES
+  pub entries : row.length % ENTRY_BYTES ≡ 0
   pub no_part : row.partition ≡ 0
   pub own : row.redirect ≡ 0
 
@@ -49,14 +51,14 @@ pub record RowHolds (next : ℕ) (id : ℕ) (row : Row) : Type 0 where
   pub drawn : id < next
   pub some_seen : 1 ≤ row.seen
   pub some_kind : 1 ≤ row.kind
-  pub kind : row.kind ≤ 2
-  pub if_data : row.kind ≡ 1 → IsDataRow row
-  pub if_map : row.kind ≡ 2 → IsMapRecord row
+  pub kind : row.kind ≤ MAP_ROW
+  pub if_data : row.kind ≡ DATA_ROW → IsDataRow row
+  pub if_map : row.kind ≡ MAP_ROW → IsMapRecord row
 
 -- the row stands for one that is redirected: it has the same bytes, and its own
 pub record IsTarget (id : ℕ) (row to : Row) : Type 0 where
   pub lower : row.redirect < id
-  pub kind : to.kind ≡ 1
+  pub kind : to.kind ≡ DATA_ROW
   pub digest : to.digest ≡ row.digest
   pub length : to.length ≡ row.length
   pub own : to.redirect ≡ 0
@@ -69,12 +71,12 @@ RedirectHolds rows id row =
 
 -- the kind of container in which a copy lies: that of its row, 1 of chunks and 2 of maps, and 3 of second copies
 abbrev pub kind_of_copy : Row → ℕ → ℕ
-kind_of_copy row copy = if nat_eq copy 0 then row.kind else 3
+kind_of_copy row copy = if nat_eq copy 0 then row.kind else HOT_CONTAINER
 
 pub record PlaceOfHolds (containers : List (ℕ × Container)) (copy : ℕ) (p : Place) (row : Row) : Type 0 where
   pub own : row.redirect ≡ 0
   pub few : copy ≤ 1
-  pub if_second : copy ≡ 1 → row.kind ≡ 1
+  pub if_second : copy ≡ 1 → row.kind ≡ DATA_ROW
   pub kind : IsSomeAnd (find nat_cmp p.container containers) (λ c. c.kind ≡ kind_of_copy row copy)
   pub within : p.offset + row.length ≤ used_of containers p.container
 
@@ -91,18 +93,18 @@ pub record ContainerRecordHolds (next : ℕ) (id : ℕ) (c : Container) : Type 0
   pub some_id : 1 ≤ id
   pub drawn : id < next
   pub some_kind : 1 ≤ c.kind
-  pub kind : c.kind ≤ 3
+  pub kind : c.kind ≤ HOT_CONTAINER
   pub some_bytes : 1 ≤ c.used
-  pub few : c.used ≤ 16777216
+  pub few : c.used ≤ MOST_CONTAINER_BYTES
 
 -- each page as far as bytes are used has a cluster
 pub record ContainerHolds (next : ℕ) (clusters : List (PageKey × ℕ)) (id : ℕ) (c : Container) : Type 0 where
   pub own : ContainerRecordHolds next id c
-  pub whole : (index : ℕ) → 4096 * index < c.used → IsSome (find pair_cmp (id, index) clusters)
+  pub whole : (index : ℕ) → CLUSTER_BYTES * index < c.used → IsSome (find pair_cmp (id, index) clusters)
 
 pub record ClusterHolds (containers : List (ℕ × Container)) (k : PageKey) (cluster : ℕ) : Type 0 where
   pub of_container : IsSome (find nat_cmp k.0 containers)
-  pub within : 4096 * k.1 < used_of containers k.0
+  pub within : CLUSTER_BYTES * k.1 < used_of containers k.0
 
 -- ---- all of these, of an image of n clusters whose tables draw this id next
 
@@ -130,12 +132,12 @@ pub record ChunksHold (n next : ℕ) (t : ChunkTables) : Type 0 where
 -- ---- maps (rule 12), over what the image holds
 
 pub record IsPieceOf (entry : Entry) (row : Row) : Type 0 where
-  pub kind : row.kind ≡ 1
+  pub kind : row.kind ≡ DATA_ROW
   pub length : entry.length ≡ row.length
 
 pub record EntryHolds (rows : List (ℕ × Row)) (entry : Entry) : Type 0 where
   pub some_bytes : 1 ≤ entry.length
-  pub short : entry.length ≤ 131072
+  pub short : entry.length ≤ MOST_CHUNK_BYTES
   pub names_row : IsSomeAnd (find nat_cmp entry.id rows) (IsPieceOf entry)
 
 abbrev pub AllEntries : (Entry → Type 0) → List Entry → Type 0

@@ -5,6 +5,7 @@ use Rattle.vdisk.specs.Disk.{DiskState, ChangedWithin}
 use Rattle.vdisk.specs.Steps.{Keeps, TornWithin, keeps_torn, keeps_as}
 use Rattle.byte_map.specs.Words.{Map}
 use Rattle.plain_volume.specs.Volume.{Volume}
+use Rattle.volume_inside.specs.declared.layout.TheConstants.{CLUSTER_BYTES}
 use Rattle.volume_inside.specs.Typed.{typed_of}
 use Rattle.volume_inside.specs.Inside.{inside_at}
 use Rattle.volume_inside.specs.View.{view}
@@ -25,7 +26,7 @@ same_map m n e = ap read e
 
 module _ (a : Area) where
   -- A map of a volume names bytes that a change did not touch: an image whose journal spells the map has its inside.
-  still_inside : (at n : ℕ) (d c : List ℕ) (m : Map) → HasSuperblock a.clusters d → length d ≡ 4096 * a.clusters
+  still_inside : (at n : ℕ) (d c : List ℕ) (m : Map) → HasSuperblock a.clusters d → length d ≡ CLUSTER_BYTES * a.clusters
       → a.meta c ≡ Ok m → IsVolume a.clusters m → IsApart at n (named (typed_of m)) → ChangedWithin at n d c
       → HasInside a (inside_at (typed_of m) d) c
   still_inside at n d c m superblock size spells volume apart change =

@@ -6,6 +6,7 @@ use Rattle.table_records.specs.declared.jobs.JobKind.TheVariants.{Optimization, 
 use Rattle.table_records.specs.declared.records.ResultRecord.{ResultRecord}
 use Rattle.table_records.specs.declared.settings.Settings.{Settings}
 use Rattle.table_records.specs.Settings.{settings_bytes}
+use Rattle.volume_inside.specs.declared.rules.TheConstants.{LEAST_MINIMUM_SIZE}
 use Rattle.volume_inside.specs.Typed.{Typed, typed_of}
 
 -- jobs are off, chunks are not compared byte by byte, and nothing is out of policy
@@ -13,7 +14,7 @@ abbrev pub fresh_settings : Settings
 fresh_settings = record {
   enabled = false;
   verify = false;
-  minimum_size = 32768;
+  minimum_size = LEAST_MINIMUM_SIZE;
   age_days = 3;
   threshold = 100;
   folders = [];

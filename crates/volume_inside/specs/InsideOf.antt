@@ -3,6 +3,7 @@ use Rattle.std.specs.Prelude.{◌≡◌, ◌≢◌, ◌*◌, ℕ, List, [], ◌�
 use Rattle.std.specs.FinMap.{find}
 use Rattle.byte_map.specs.Words.{Map, bytes_cmp}
 use Rattle.table_records.specs.Values.{volume_in}
+use Rattle.volume_inside.specs.declared.layout.TheConstants.{CLUSTER_BYTES}
 use Rattle.volume_inside.specs.declared.mount_fault.MountFault.{MountFault}
 use Rattle.volume_inside.specs.declared.mount_fault.MountFault.TheVariants.{NotVolume, SizeDiffers, MetaDamaged, VersionUnknown, BadTable, Failed, Memory}
 use Rattle.volume_inside.specs.Inside.{Inside}
@@ -20,7 +21,7 @@ area_of read n = record { clusters = n; meta = read n }
 -- the superblock names n clusters, and the image has as many
 pub record IsImageOf (n : ℕ) (image : List ℕ) : Type 0 where
   pub superblock : HasSuperblock n image
-  pub size : length image ≡ 4096 * n
+  pub size : length image ≡ CLUSTER_BYTES * n
 
 -- the record of the volume is there with its 12 bytes, and has a version that is not 1
 pub record HasVersion (found : ℕ) (m : Map) : Type 0 where
@@ -35,7 +36,7 @@ abbrev pub InsideOf : Reading → List ℕ → Result Inside MountFault → Type
 InsideOf read image (Ok i) = (n : ℕ) × HasInside (area_of read n) i image
 InsideOf read image (Err NotVolume) = (n : ℕ) → HasSuperblock n image → ⊥
 InsideOf read image (Err (SizeDiffers said size)) =
-    (n : ℕ) × HasSuperblock n image × (said ≡ 4096 * n) × (size ≡ length image) × (said ≢ size)
+    (n : ℕ) × HasSuperblock n image × (said ≡ CLUSTER_BYTES * n) × (size ≡ length image) × (said ≢ size)
 InsideOf read image (Err (MetaDamaged half)) = (n : ℕ) × IsImageOf n image × (read n image ≡ Err half)
 InsideOf read image (Err (VersionUnknown found)) =
     (n : ℕ) × (m : Map) × IsImageOf n image × (read n image ≡ Ok m) × HasVersion found m

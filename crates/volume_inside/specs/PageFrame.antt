@@ -14,6 +14,7 @@ use Rattle.volume_inside.specs.Lists.{IsOut}
 use Rattle.volume_inside.specs.Ranges.{IsApart, AgreesIn}
 use Rattle.table_records.specs.declared.chunk_records.Place.{Place}
 use Rattle.table_records.specs.declared.chunk_records.Container.{Container}
+use Rattle.volume_inside.specs.declared.layout.TheConstants.{CLUSTER_BYTES}
 use Rattle.volume_inside.specs.ChunkTables.{ChunkTables, CopyKey, PageKey}
 use Rattle.volume_inside.specs.Pages.{used_of, page_length, page_ranges, page_clusters, page_bytes, page, pages_from, pages_of}
 use Rattle.volume_inside.specs.Chunks.{length_of, copies_of, chunks_at}
@@ -24,22 +25,22 @@ some_same a b same = cc
 -- the page of a key whose cluster is named
 page_agrees : (containers : List (ℕ × Container)) (k : PageKey) (cluster : ℕ) (es : List (PageKey × ℕ)) (old new : List ℕ)
     → find pair_cmp k es ≡ Some cluster → AgreesIn (page_ranges containers es) old new
-    → part (4096 * cluster) (page_length containers k) new ≡ part (4096 * cluster) (page_length containers k) old
+    → part (CLUSTER_BYTES * cluster) (page_length containers k) new ≡ part (CLUSTER_BYTES * cluster) (page_length containers k) old
 page_agrees containers k cluster [] old new found agrees = absurd (let clash : None ≡ Some cluster = found in cc)
 page_agrees containers k cluster (e ∷ es) old new found agrees =
     by (pair_cmp k e.0) refl found (λ at. page_agrees containers k cluster es old new at agrees.1)
   where
     by : (r : Ordering) → pair_cmp k e.0 ≡ r → cond (is_eq r) (Some e.1) (find pair_cmp k es) ≡ Some cluster
         → (find pair_cmp k es ≡ Some cluster
-        → part (4096 * cluster) (page_length containers k) new ≡ part (4096 * cluster) (page_length containers k) old)
-        → part (4096 * cluster) (page_length containers k) new ≡ part (4096 * cluster) (page_length containers k) old
+        → part (CLUSTER_BYTES * cluster) (page_length containers k) new ≡ part (CLUSTER_BYTES * cluster) (page_length containers k) old)
+        → part (CLUSTER_BYTES * cluster) (page_length containers k) new ≡ part (CLUSTER_BYTES * cluster) (page_length containers k) old
     by Less is at rest = rest at
     by Greater is at rest = rest at
     by Equal is at rest =
         let key : e.0 ≡ k = sym (exact_pairs nat_cmp nat_cmp exact_unsigned exact_unsigned k e.0 is) in
         let value : e.1 ≡ cluster = some_same e.1 cluster at in
-        subst (λ (c : ℕ). part (4096 * c) (page_length containers k) new ≡ part (4096 * c) (page_length containers k) old) value
-        (subst (λ (x : PageKey). part (4096 * e.1) (page_length containers x) new ≡ part (4096 * e.1) (page_length containers x) old) key agrees.0)
+        subst (λ (c : ℕ). part (CLUSTER_BYTES * c) (page_length containers k) new ≡ part (CLUSTER_BYTES * c) (page_length containers k) old) value
+        (subst (λ (x : PageKey). part (CLUSTER_BYTES * e.1) (page_length containers x) new ≡ part (CLUSTER_BYTES * e.1) (page_length containers x) old) key agrees.0)
 
 module _ (t : ChunkTables) (old new : List ℕ) (agrees : AgreesIn (page_ranges t.containers t.clusters) old new) where
   one_page : (k : PageKey) → page t k new ≡ page t k old
@@ -64,15 +65,15 @@ module _ (t : ChunkTables) (old new : List ℕ) (agrees : AgreesIn (page_ranges 
   pub chunks_agree : chunks_at t new ≡ chunks_at t old
   chunks_agree = λ i. record { rows = t.rows; copies = copies_agree t.places i }
 
-pub clusters_apart : (a b m n : ℕ) → (a ≡ b → ⊥) → m ≤ 4096 → n ≤ 4096 → (4096 * a + m ≤ 4096 * b) ⊎ (4096 * b + n ≤ 4096 * a)
+pub clusters_apart : (a b m n : ℕ) → (a ≡ b → ⊥) → m ≤ CLUSTER_BYTES → n ≤ CLUSTER_BYTES → (CLUSTER_BYTES * a + m ≤ CLUSTER_BYTES * b) ⊎ (CLUSTER_BYTES * b + n ≤ CLUSTER_BYTES * a)
 clusters_apart a b m n differ one two = elim (cases_lt a b) [ inl less ↦ inl (omega arith) | inr more ↦ inr (omega arith) ]
 
 -- a cluster that no container has has no byte in their pages
 pub pages_unnamed : (c : ℕ) (containers : List (ℕ × Container)) (es : List (PageKey × ℕ)) → IsOut c (page_clusters es)
-    → IsApart (4096 * c) 4096 (page_ranges containers es)
+    → IsApart (CLUSTER_BYTES * c) CLUSTER_BYTES (page_ranges containers es)
 pages_unnamed c containers [] out = tt
 pages_unnamed c containers (e ∷ es) out =
-    (clusters_apart e.1 c (page_length containers e.0) 4096 out.0 (omega arith) (omega arith), pages_unnamed c containers es out.1)
+    (clusters_apart e.1 c (page_length containers e.0) CLUSTER_BYTES out.0 (omega arith) (omega arith), pages_unnamed c containers es out.1)
 
 -- pages in data clusters have no byte in the journal
 pub pages_apart : (n : ℕ) (containers : List (ℕ × Container)) (es : List (PageKey × ℕ)) → AreData n (page_clusters es)

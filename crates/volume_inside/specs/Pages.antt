@@ -5,6 +5,7 @@ use Rattle.std.specs.FinMap.{find}
 use Rattle.vdisk.specs.Ranges.{part}
 use Rattle.table_records.specs.Keys.{pair_cmp}
 use Rattle.table_records.specs.declared.chunk_records.Container.{Container}
+use Rattle.volume_inside.specs.declared.layout.TheConstants.{CLUSTER_BYTES}
 use Rattle.volume_inside.specs.ChunkTables.{ChunkTables, PageKey}
 
 abbrev pub used_or_none : Option Container → ℕ
@@ -17,10 +18,10 @@ used_of containers c = used_or_none (find nat_cmp c containers)
 
 -- of the bytes of a cluster of a container, how many are used
 abbrev pub page_length : List (ℕ × Container) → PageKey → ℕ
-page_length containers k = min (used_of containers k.0 - 4096 * k.1) 4096
+page_length containers k = min (used_of containers k.0 - CLUSTER_BYTES * k.1) CLUSTER_BYTES
 
 abbrev pub page_range : List (ℕ × Container) → PageKey → ℕ → ℕ × ℕ
-page_range containers k cluster = (4096 * cluster, page_length containers k)
+page_range containers k cluster = (CLUSTER_BYTES * cluster, page_length containers k)
 
 abbrev pub page_ranges : List (ℕ × Container) → List (PageKey × ℕ) → List (ℕ × ℕ)
 page_ranges containers [] = []
@@ -32,7 +33,7 @@ page_clusters (e ∷ es) = e.1 ∷ page_clusters es
 
 abbrev pub page_bytes : Option ℕ → ℕ → List ℕ → List ℕ
 page_bytes None length image = []
-page_bytes (Some cluster) length image = part (4096 * cluster) length image
+page_bytes (Some cluster) length image = part (CLUSTER_BYTES * cluster) length image
 
 -- the page of a key
 abbrev pub page : ChunkTables → PageKey → List ℕ → List ℕ
@@ -45,7 +46,7 @@ pages_from t c image index (suc n) = page t (c, index) image ++ pages_from t c i
 
 -- how many clusters so many bytes take
 abbrev pub pages_of : ℕ → ℕ
-pages_of bytes = (bytes + 4095) / 4096
+pages_of bytes = (bytes + (CLUSTER_BYTES - 1)) / CLUSTER_BYTES
 
 -- the bytes of a container that are used
 abbrev pub content : ChunkTables → ℕ → List ℕ → List ℕ

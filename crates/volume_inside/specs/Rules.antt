@@ -4,6 +4,7 @@ use Rattle.std.specs.Prelude.{◌≡◌, ◌⊎◌, ◌≤◌, ◌<◌, ◌+◌,
 use Rattle.std.specs.List.{filter, list_all}
 use Rattle.std.specs.Ordering.{nat_cmp}
 use Rattle.std.specs.FinMap.{find}
+use Rattle.groundwork.specs.declared.limits.TheConstants.{LAST_ID}
 use Rattle.byte_map.specs.Words.{Map}
 use Rattle.plain_volume.specs.Volume.{is_lawful, is_lawful_text}
 use Rattle.plain_volume.specs.declared.limits.TheConstants.{MOST_FILES, MOST_BYTES_OF_A_FILE}
@@ -15,6 +16,8 @@ use Rattle.table_records.specs.declared.records.FileRecord.{FileRecord}
 use Rattle.table_records.specs.declared.records.Extent.{Extent}
 use Rattle.table_records.specs.declared.records.ResultRecord.{ResultRecord}
 use Rattle.table_records.specs.declared.settings.Settings.{Settings}
+use Rattle.volume_inside.specs.declared.rules.TheConstants.{LEAST_MINIMUM_SIZE, LEAST_THRESHOLD, MOST_AGE_DAYS}
+use Rattle.volume_inside.specs.declared.layout.TheConstants.{CLUSTER_BYTES}
 use Rattle.volume_inside.specs.Typed.{Typed, FileBlock, typed_of}
 use Rattle.volume_inside.specs.Layout.{IsDataCluster}
 use Rattle.volume_inside.specs.Entries.{Each}
@@ -27,17 +30,17 @@ use Rattle.volume_inside.specs.ChunkRules.{ChunksHold, RowsHold, RedirectsHold, 
 pub record IsVolumeRecord (v : VolumeRecord) : Type 0 where
   pub version : v.version ≡ 1
   pub some_id : 1 ≤ v.next_id
-  pub last_id : v.next_id ≤ 2 ^ 48 - 1
+  pub last_id : v.next_id ≤ LAST_ID
 
 -- each text has at least one byte, and only bytes that a name may have
 abbrev pub are_lawful_texts : List (List ℕ) → Bool
 are_lawful_texts texts = list_all is_lawful_text texts
 
 pub record AreSettings (s : Settings) : Type 0 where
-  pub least_size : 32768 ≤ s.minimum_size
-  pub most_size : s.minimum_size ≤ 1073741824
-  pub most_days : s.age_days ≤ 36500
-  pub least_threshold : 2 ≤ s.threshold
+  pub least_size : LEAST_MINIMUM_SIZE ≤ s.minimum_size
+  pub most_size : s.minimum_size ≤ MOST_BYTES_OF_A_FILE
+  pub most_days : s.age_days ≤ MOST_AGE_DAYS
+  pub least_threshold : LEAST_THRESHOLD ≤ s.threshold
   pub most_threshold : s.threshold ≤ 2 ^ 32 - 1
   pub folders : are_lawful_texts s.folders ≡ true
   pub types : are_lawful_texts s.types ≡ true
@@ -96,12 +99,12 @@ FilesHold next files = Each (FileHolds next) files
 -- the bytes of a block lie in the file, which is there
 abbrev pub LiesIn : FileBlock → Extent → Option FileRecord → Type 0
 LiesIn k e None = ⊥
-LiesIn k e (Some file) = 4096 * k.1 + e.valid ≤ file.length
+LiesIn k e (Some file) = CLUSTER_BYTES * k.1 + e.valid ≤ file.length
 
 pub record ExtentHolds (n : ℕ) (files : List (ℕ × FileRecord)) (k : FileBlock) (e : Extent) : Type 0 where
   pub in_file : LiesIn k e (find nat_cmp k.0 files)
   pub some_bytes : 1 ≤ e.valid
-  pub in_cluster : e.valid ≤ 4096
+  pub in_cluster : e.valid ≤ CLUSTER_BYTES
   pub in_data : IsDataCluster n e.cluster
 
 abbrev pub ExtentsHold : ℕ → List (ℕ × FileRecord) → List (FileBlock × Extent) → Type 0

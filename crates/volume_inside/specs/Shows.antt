@@ -3,6 +3,7 @@ use Rattle.std.specs.Prelude.{◌≡◌, ◌⊎◌, ◌*◌, ℕ, List, length, 
 use Rattle.vdisk.specs.Disk.{DiskState}
 use Rattle.byte_map.specs.Words.{Map}
 use Rattle.plain_volume.specs.Volume.{Volume}
+use Rattle.volume_inside.specs.declared.layout.TheConstants.{CLUSTER_BYTES}
 use Rattle.volume_inside.specs.Typed.{Typed, typed_of}
 use Rattle.volume_inside.specs.Inside.{Inside, inside_at}
 use Rattle.volume_inside.specs.View.{view}
@@ -18,7 +19,7 @@ pub record Area : Type 0 where
 -- the image has an inside, and this is it
 pub record HasInside (a : Area) (i : Inside) (image : List ℕ) : Type 0 where
   pub superblock : HasSuperblock a.clusters image
-  pub size : length image ≡ 4096 * a.clusters
+  pub size : length image ≡ CLUSTER_BYTES * a.clusters
   pub stored : Map
   pub spells : a.meta image ≡ Ok stored
   pub volume : IsVolume a.clusters stored

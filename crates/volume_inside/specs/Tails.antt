@@ -2,6 +2,7 @@
 use Rattle.std.specs.Prelude.{◌≡◌, ◌≤◌, ◌+◌, ◌*◌, ◌-◌, ℕ, Some}
 use Rattle.std.specs.FinMap.{find}
 use Rattle.table_records.specs.Keys.{pair_cmp}
+use Rattle.volume_inside.specs.declared.layout.TheConstants.{CLUSTER_BYTES}
 use Rattle.volume_inside.specs.ChunkTables.{ChunkTables, PageKey}
 use Rattle.volume_inside.specs.Typed.{Typed}
 use Rattle.volume_inside.specs.Pages.{page_length}
@@ -12,7 +13,7 @@ use Rattle.volume_inside.specs.Named.{named}
 -- spells, name no byte of it
 pub record AreTailsFree (stored : Typed) (now : ChunkTables) : Type 0 where
   pub tail : (k : PageKey) (cluster : ℕ) → find pair_cmp k now.clusters ≡ Some cluster
-      → IsApart (4096 * cluster + page_length now.containers k) (4096 - page_length now.containers k) (named stored)
+      → IsApart (CLUSTER_BYTES * cluster + page_length now.containers k) (CLUSTER_BYTES - page_length now.containers k) (named stored)
 
 -- a place in a cluster of a container that is behind what is used of it
 pub record IsBehind (cluster from : ℕ) (t : ChunkTables) : Type 0 where

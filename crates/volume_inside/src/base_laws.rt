@@ -9,6 +9,7 @@ ghost use Rattle.table_records.specs.Keys.{pair_cmp};
 ghost use Rattle.table_records.specs.declared.records.FileRecord.{FileRecord};
 ghost use Rattle.table_records.specs.declared.chunk_records.Row.{Row};
 ghost use Rattle.table_records.specs.declared.chunk_records.Container.{Container};
+ghost use Rattle.volume_inside.specs.declared.layout.TheConstants.{CLUSTER_BYTES};
 ghost use Rattle.volume_inside.specs.ChunkTables.{ChunkTables, PageKey};
 ghost use Rattle.volume_inside.specs.Typed.{Typed};
 ghost use Rattle.volume_inside.specs.Layout.{AreData};
@@ -79,8 +80,8 @@ pub fn the_same_chunks_show_the_same_volume()
 /// A block that holds the cells that stood at its place shows the same volume. None of these cells is lost.
 pub fn a_recalled_block_shows_the_same_volume()
     ensures { (i : Inside) (id n : ℕ) (bytes : List ℕ) →
-        ((file : FileRecord) (p : ℕ) → find nat_cmp id i.files ≡ Some file → p < file.length → p / 4096 ≡ n →
-        cell i id file p ≡ Byte (get_or bytes (p % 4096) 0)) → view (with_block (id, n) bytes i) ≡ view i }
+        ((file : FileRecord) (p : ℕ) → find nat_cmp id i.files ≡ Some file → p < file.length → p / CLUSTER_BYTES ≡ n →
+        cell i id file p ≡ Byte (get_or bytes (p % CLUSTER_BYTES) 0)) → view (with_block (id, n) bytes i) ≡ view i }
 {}
 
 /// A base in the place of the blocks of a file, whose pieces spell the cells of the file, shows the same volume.
@@ -106,7 +107,7 @@ pub fn tails_are_free_after_a_commit()
 pub fn tails_go_on()
     ensures write { (stored now : Typed) (k : PageKey) (cluster from n : ℕ) → AreTailsFree stored now.chunks →
         find pair_cmp k now.chunks.clusters ≡ Some cluster → page_length now.chunks.containers k ≤ from →
-        from + n ≤ 4096 → IsApart (4096 * cluster + from) n (named stored) }
+        from + n ≤ CLUSTER_BYTES → IsApart (CLUSTER_BYTES * cluster + from) n (named stored) }
     ensures cluster { (stored now : Typed) (k : PageKey) (cluster : ℕ) → AreTailsFree stored now.chunks →
         IsUnnamed cluster stored → AreTailsFree stored (with_cluster k cluster now).chunks }
     ensures used { (stored now : Typed) (id : ℕ) (new : Container) → AreTailsFree stored now.chunks →

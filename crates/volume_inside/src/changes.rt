@@ -2,11 +2,14 @@
 ghost use Rattle.std.specs.Prelude.{◌≡◌, ◌≤◌, ◌<◌, ◌+◌, ◌-◌, ◌*◌, ◌^◌, ℕ, Bool, true, T, List, length, Some, None};
 ghost use Rattle.std.specs.Ordering.{nat_cmp};
 ghost use Rattle.std.specs.FinMap.Entries.{find, is_sorted};
+ghost use Rattle.groundwork.specs.declared.limits.TheConstants.{LAST_ID};
+ghost use Rattle.plain_volume.specs.declared.limits.TheConstants.{MOST_BYTES_OF_A_FILE, MOST_FILES};
 ghost use Rattle.plain_volume.specs.Volume.{is_lawful, name_cmp, with_file as with_cells};
 ghost use Rattle.table_records.specs.Keys.{single_cmp};
 ghost use Rattle.table_records.specs.declared.records.VolumeRecord.{VolumeRecord};
 ghost use Rattle.table_records.specs.declared.records.FileRecord.{FileRecord};
 ghost use Rattle.table_records.specs.declared.records.Extent.{Extent};
+ghost use Rattle.volume_inside.specs.declared.layout.TheConstants.{CLUSTER_BYTES};
 ghost use Rattle.volume_inside.specs.Typed.{Typed, FileBlock};
 ghost use Rattle.volume_inside.specs.Changes.{with_file, with_extent, created, deleted, renamed, DropsOnly};
 ghost use Rattle.volume_inside.specs.Inside.{Inside, inside_at};
@@ -20,8 +23,8 @@ ghost use Rattle.volume_inside.specs.Rules.{next_id_of, FileHolds, ExtentHolds, 
 pub fn files_that_are_made_keep_the_rules()
     ensures { (n : ℕ) (t : Typed) (v : VolumeRecord) (name : List ℕ) (file : FileRecord) → RulesHold n t →
         find single_cmp tt t.volume ≡ Some v → T (is_sorted name_cmp t.names) →
-        is_lawful name ≡ true → find name_cmp name t.names ≡ None → length t.names < 65536 → v.next_id < 2 ^ 48 - 1 →
-        file.length ≤ 1073741824 → file.map_row ≡ 0 → file.covers ≡ 0 → RulesHold n (created v name file t) }
+        is_lawful name ≡ true → find name_cmp name t.names ≡ None → length t.names < MOST_FILES → v.next_id < LAST_ID →
+        file.length ≤ MOST_BYTES_OF_A_FILE → file.map_row ≡ 0 → file.covers ≡ 0 → RulesHold n (created v name file t) }
 {}
 
 /// A file that goes with its name and its extents keeps the rules.
@@ -45,7 +48,7 @@ pub fn files_that_are_renamed_keep_the_rules()
 pub fn records_in_which_blocks_lie_keep_the_rules()
     ensures { (n : ℕ) (t : Typed) (id : ℕ) (old file : FileRecord) → RulesHold n t →
         find nat_cmp id t.files ≡ Some old → FileHolds (next_id_of t) id file →
-        Each (λ k e. k.0 ≡ id → 4096 * k.1 + e.valid ≤ file.length) t.extents → RulesHold n (with_file id file t) }
+        Each (λ k e. k.0 ≡ id → CLUSTER_BYTES * k.1 + e.valid ≤ file.length) t.extents → RulesHold n (with_file id file t) }
 {}
 
 /// An extent that meets its rule, over a cluster that is not named otherwise, keeps the rules.

@@ -9,6 +9,7 @@ ghost use Rattle.volume_inside.specs.ChunkRules.{PlaceOfHolds, PlaceHolds, Conta
 ghost use Rattle.volume_inside.specs.ChunkRules.{kind_of_copy as kind_for};
 
 use crate::layout::CLUSTER_BYTES;
+use groundwork::MOST_PIECE_BYTES;
 use table_records::{Container, Place, Row};
 
 /// The kind of the row of a chunk of file data.
@@ -21,19 +22,19 @@ pub const MAP_ROW: u8 = 2;
 pub const HOT_CONTAINER: u8 = 3;
 
 /// The most bytes of a chunk of file data.
-pub const MOST_CHUNK_BYTES: u32 = 131_072;
+pub const MOST_CHUNK_BYTES: u32 = MOST_PIECE_BYTES;
 
 /// The bytes of an entry of a stream map.
-pub const ENTRY_BYTES: u32 = 12;
+pub const ENTRY_BYTES: u32 = stream_map::ENTRY_BYTES as u32;
 
 /// The most bytes of a stream map: 32,768 entries.
-pub const MOST_MAP_BYTES: u32 = 393_216;
+pub const MOST_MAP_BYTES: u32 = 32_768 * ENTRY_BYTES;
 
 /// How many partitions rows of file data are in.
 pub const PARTITIONS: u8 = 8;
 
 /// The most bytes of a container: 4,096 clusters.
-pub const MOST_CONTAINER_BYTES: u32 = 16_777_216;
+pub const MOST_CONTAINER_BYTES: u32 = 4_096 * CLUSTER_BYTES;
 
 fn is_data_row(row: &Row) -> bool
     ensures { IsTrue result ↔ IsDataRow row.now }

@@ -7,6 +7,7 @@ ghost use Rattle.cluster_space.specs.declared.state.State.{State};
 ghost use Rattle.cluster_space.specs.States.{IsIn, released};
 ghost use Rattle.table_records.specs.declared.records.FileRecord.{FileRecord};
 ghost use Rattle.table_records.specs.declared.records.Extent.{Extent};
+ghost use Rattle.volume_inside.specs.declared.layout.TheConstants.{CLUSTER_BYTES, JOURNAL_AT};
 ghost use Rattle.volume_inside.specs.declared.mount_fault.MountFault.{MountFault};
 ghost use Rattle.volume_inside.specs.Typed.{Typed, FileBlock, typed_of};
 ghost use Rattle.volume_inside.specs.Changes.{with_block, with_extent, keep_extents};
@@ -46,7 +47,7 @@ pub fn unnamed_bytes_are_not_seen()
 /// Tables of a volume of `n` clusters name no byte of the journal, which has two halves of `n / 32` clusters behind the
 /// superblock.
 pub fn volumes_leave_the_journal_alone()
-    ensures { (n : ℕ) (t : Typed) → RulesHold n t → IsApart 4096 (2 * (4096 * (n / 32))) (named t) }
+    ensures { (n : ℕ) (t : Typed) → RulesHold n t → IsApart JOURNAL_AT (2 * (CLUSTER_BYTES * (n / 32))) (named t) }
 {}
 
 /// The view of tables that meet the rules is a lawful volume: names are lawful, distinct and in order, there are not
@@ -65,16 +66,16 @@ pub fn files_without_a_base_lose_no_cell()
 pub fn a_cell_is_a_byte_of_its_block()
     ensures { (i : Inside) (id n : ℕ) (bytes : List ℕ) (other p : ℕ) (file : FileRecord) →
         cell (with_block (id, n) bytes i) other file p
-        ≡ (if (other == id) && (p / 4096 == n) then Byte (get_or bytes (p % 4096) 0) else cell i other file p) }
+        ≡ (if (other == id) && (p / CLUSTER_BYTES == n) then Byte (get_or bytes (p % CLUSTER_BYTES) 0) else cell i other file p) }
 {}
 
 /// A block that is set is a write of its bytes at its place. The file reaches over the block, or ends where they end.
 pub fn a_block_is_a_write_of_its_bytes()
-    ensures { (i : Inside) (id n rest : ℕ) (file : FileRecord) (bytes : List ℕ) → length bytes ≤ 4096 →
-        (length bytes ≡ 4096) ⊎ (rest ≡ 0) → file.length ≡ 4096 * n + (length bytes + rest) →
+    ensures { (i : Inside) (id n rest : ℕ) (file : FileRecord) (bytes : List ℕ) → length bytes ≤ CLUSTER_BYTES →
+        (length bytes ≡ CLUSTER_BYTES) ⊎ (rest ≡ 0) → file.length ≡ CLUSTER_BYTES * n + (length bytes + rest) →
         cells (with_block (id, n) bytes i) id file
-        ≡ take (4096 * n) (cells i id file)
-        ++ (map Byte bytes ++ drop (4096 * n + length bytes) (cells i id file)) }
+        ≡ take (CLUSTER_BYTES * n) (cells i id file)
+        ++ (map Byte bytes ++ drop (CLUSTER_BYTES * n + length bytes) (cells i id file)) }
 {}
 
 /// A free cluster may be written: neither the stored tables, which each crash image spells, nor the tables now name a

@@ -25,5 +25,7 @@ pub use layout::{
     half_bytes, is_data_cluster,
 };
 pub use mount_fault::MountFault;
-pub use rules::{extent_holds, file_holds, result_holds, settings_hold, volume_record_holds};
+pub use rules::{
+    LEAST_MINIMUM_SIZE, extent_holds, file_holds, result_holds, settings_hold, volume_record_holds,
+};
 pub use superblock::{read_superblock, write_superblock};

@@ -11,6 +11,15 @@ use plain_volume::limits::MOST_BYTES_OF_A_FILE;
 use plain_volume::text_is_lawful;
 use table_records::{Extent, FileRecord, ResultRecord, Settings, Texts, VolumeRecord};
 
+/// The least size, in bytes, that settings may ask of a file: that of a fresh volume.
+pub const LEAST_MINIMUM_SIZE: u32 = 32_768;
+
+/// The most days of age that settings may ask of a file.
+pub const MOST_AGE_DAYS: u32 = 36_500;
+
+/// The least threshold that settings may have.
+pub const LEAST_THRESHOLD: u32 = 2;
+
 /// Whether the record of the volume has a version that is known, and a next id that may be drawn.
 pub fn volume_record_holds(volume: VolumeRecord) -> bool
     ensures { IsTrue result ↔ IsVolumeRecord volume }
@@ -22,8 +31,11 @@ pub fn volume_record_holds(volume: VolumeRecord) -> bool
 pub fn settings_hold(settings: &Settings) -> bool
     ensures { IsTrue result ↔ AreSettings settings.now }
 {
-    let size = settings.minimum_size >= 32_768 && settings.minimum_size <= 1_073_741_824;
-    let in_range = size && settings.age_days <= 36_500 && settings.threshold >= 2;
+    let size = settings.minimum_size >= LEAST_MINIMUM_SIZE
+        && settings.minimum_size as u64 <= MOST_BYTES_OF_A_FILE;
+    let in_range = size
+        && settings.age_days <= MOST_AGE_DAYS
+        && settings.threshold >= LEAST_THRESHOLD;
     in_range && texts_hold(&settings.folders) && texts_hold(&settings.types)
 }
 
