@@ -1,6 +1,7 @@
 //! Laws of the definitions, each the contract of a function that does nothing.
 
 ghost use Rattle.std.specs.Prelude.{◌≡◌, ℕ, ◌+◌, ◌*◌, ◌%◌, ◌<◌, ◌≤◌, All, List, ◌++◌, length, slice_index, None, Some};
+ghost use Rattle.stream_map.specs.declared.limits.TheConstants.{ENTRY_BYTES};
 ghost use Rattle.stream_map.specs.declared.entry.Entry.{Entry};
 ghost use Rattle.stream_map.specs.Pieces.{Covers, Fits, entries_in, place_at, spell, total_length};
 ghost use Rattle.stream_map.specs.Walks.{IsLawful, Walked, Walks, walk_of};
@@ -9,14 +10,14 @@ ghost use Rattle.stream_map.specs.Walks.{IsLawful, Walked, Walks, walk_of};
 /// read are spelled by the same bytes.
 pub fn entries_and_bytes_are_one_to_one()
     ensures read_back { (entries : List Entry) → All Fits entries → entries_in (spell entries) ≡ entries }
-    ensures spelled_again { (n : ℕ) (bytes : List ℕ) → length bytes ≡ 12 * n → ((i : ℕ) → slice_index bytes i < 256)
+    ensures spelled_again { (n : ℕ) (bytes : List ℕ) → length bytes ≡ ENTRY_BYTES * n → ((i : ℕ) → slice_index bytes i < 256)
         → spell (entries_in bytes) ≡ bytes }
 {}
 
 /// Behind whole entries, bytes spell what they spell by themselves.
 pub fn entries_of_joined_bytes()
-    ensures count { (n : ℕ) (bytes : List ℕ) → length bytes ≡ 12 * n → length (entries_in bytes) ≡ n }
-    ensures joined { (n : ℕ) (front back : List ℕ) → length front ≡ 12 * n
+    ensures count { (n : ℕ) (bytes : List ℕ) → length bytes ≡ ENTRY_BYTES * n → length (entries_in bytes) ≡ n }
+    ensures joined { (n : ℕ) (front back : List ℕ) → length front ≡ ENTRY_BYTES * n
         → entries_in (front ++ back) ≡ entries_in front ++ entries_in back }
 {}
 

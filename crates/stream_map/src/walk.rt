@@ -49,7 +49,7 @@ impl Walk {
     /// Takes the next entry of the map, or leaves the walk as it was. The fault is `ZeroPiece` with the number
     /// of entries before this one.
     pub fn push(&mut self, bytes: &[u8; ENTRY_BYTES]) -> Result<Entry, MapFault>
-        requires { 12 * (self.old.count + 1) ≤ self.old.total }
+        requires { ENTRY_BYTES * (self.old.count + 1) ≤ self.old.total }
         ensures accepted { IsOk result ↔ IsLawful (entry_of bytes.now) }
         ensures taken { IfOk result (λ entry. (entry ≡ entry_of bytes.now) × (self.new ≡ after self.old entry)) }
         ensures fault { IfErr result (λ fault. (fault ≡ ZeroPiece self.old.count) × (self.new ≡ self.old)) }
