@@ -4,6 +4,7 @@ use Rattle.byteorder.specs.Endian.{big_bytes}
 use Rattle.vdisk.specs.Disk.{DiskState, ChangedWithin}
 use Rattle.vdisk.specs.Ranges.{part}
 use Rattle.byte_map.specs.Words.{Map}
+use Rattle.meta_log.specs.declared.limits.TheConstants.{CHECKPOINT_HEAD}
 use Rattle.meta_log.specs.Records.{Record, Put}
 use Rattle.meta_log.specs.Spelled.{spelled}
 use Rattle.meta_log.specs.Meta.{digest_of}
@@ -27,8 +28,8 @@ checkpoint_text epoch m = front_text epoch m ++ (digest_of (front_text epoch m +
 -- behind whatever gate the half has the checkpoint of this map, and no open gate behind that
 pub record IsCheckpoint (epoch : ℕ) (m : Map) (half : List ℕ) : Type 0 where
   pub text : part 1 (44 + length (body_text m)) half ≡ checkpoint_text epoch m
-  pub closed : get_or half (45 + length (body_text m)) 0 ≢ 1
-  pub within : 45 + length (body_text m) ≤ length half
+  pub closed : get_or half (CHECKPOINT_HEAD + length (body_text m)) 0 ≢ 1
+  pub within : CHECKPOINT_HEAD + length (body_text m) ≤ length half
 
 -- What a crash may leave while a checkpoint is written to the half at a place: bytes behind its closed gate are torn;
 -- or the checkpoint stands there, and its gate is torn.

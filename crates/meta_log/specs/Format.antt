@@ -1,6 +1,7 @@
 -- A fresh journal, and what a crash leaves while it is made.
 use Rattle.std.specs.Prelude.{◌≡◌, ◌⊎◌, ◌+◌, ◌*◌, ℕ, false, List, [], Ok, Err}
 use Rattle.vdisk.specs.Disk.{DiskState, ChangedWithin}
+use Rattle.meta_log.specs.declared.limits.TheConstants.{CHECKPOINT_HEAD}
 use Rattle.meta_log.specs.Meta.{meta_of}
 use Rattle.meta_log.specs.Ready.{Layout}
 
@@ -11,7 +12,7 @@ fresh at half = record {
   half = half;
   live_at = at;
   other_at = at + half;
-  place = 45;
+  place = CHECKPOINT_HEAD;
   epoch = 1;
   other_open = false;
 }

@@ -3,6 +3,7 @@ use Rattle.std.specs.Prelude.{◌≡◌, ◌⊎◌, ◌≤◌, ◌&&◌, nat_lt,
 use Rattle.vdisk.specs.Disk.{DiskState}
 use Rattle.vdisk.specs.declared.disk.Disk.{Ghosts}
 use Rattle.byte_map.specs.Words.{Map, bytes_in}
+use Rattle.meta_log.specs.declared.limits.TheConstants.{BEFORE_BODY, CHECKPOINT_HEAD, GROUP_HEAD, RECORD_HEAD}
 use Rattle.meta_log.specs.Records.{Record, records_of, changes}
 use Rattle.meta_log.specs.Meta.{meta_of, place_in, epoch_in}
 use Rattle.meta_log.specs.Ready.{Layout, Stands}
@@ -10,11 +11,11 @@ use Rattle.meta_log.specs.declared.log.MetaLog.{MetaLog}
 
 -- the bytes of a checkpoint of a map, whose record of a pair has five bytes before the pair's
 abbrev pub checkpoint_length : Map → ℕ
-checkpoint_length m = 45 + (5 * length m + bytes_in m)
+checkpoint_length m = CHECKPOINT_HEAD + (RECORD_HEAD * length m + bytes_in m)
 
 -- records of so many bytes do not fit into a half behind groups that end at this place
 abbrev pub passes_half : ℕ → ℕ → ℕ → Bool
-passes_half half place bytes = nat_lt 0 bytes && nat_lt half (place + (37 + bytes))
+passes_half half place bytes = nat_lt 0 bytes && nat_lt half (place + (GROUP_HEAD + bytes))
 
 -- how many epochs a commit of records of so many bytes takes: one where they do not fit behind the last group
 abbrev pub epochs_for : ℕ → ℕ → ℕ → ℕ
@@ -31,7 +32,7 @@ module _ {D : Type 0} {d : Ghosts D} where
 
   -- the bytes of the staged records
   abbrev pub staged_of : MetaLog D d → ℕ
-  staged_of log = length log.staged.items - 36
+  staged_of log = length log.staged.items - BEFORE_BODY
 
   abbrev pub layout_of : MetaLog D d → Layout
   layout_of log = record {
@@ -52,7 +53,7 @@ module _ {D : Type 0} {d : Ghosts D} where
   pub record IsLog (log : MetaLog D d) (stored : Map) : Type 0 where
     pub stands : Stands (layout_of log) (state_of log) stored
     pub records : List Record
-    pub spelled : records_of (drop 36 log.staged.items) ≡ Some records
+    pub spelled : records_of (drop BEFORE_BODY log.staged.items) ≡ Some records
     pub now : changes records stored ≡ now_of log
 
   -- these bytes of the disk lie below both halves, or above both
@@ -78,7 +79,7 @@ module _ {D : Type 0} {d : Ghosts D} where
   abbrev pub next_place : MetaLog D d → ℕ
   next_place log =
       if nat_eq (staged_of log) 0 then log.place
-      else (if needs_checkpoint log then checkpoint_length (now_of log) else log.place + (37 + staged_of log))
+      else (if needs_checkpoint log then checkpoint_length (now_of log) else log.place + (GROUP_HEAD + staged_of log))
 
   -- The epoch that the disk's image tells has risen by one exactly where what was staged did not fit behind the last
   -- group of the live half, as the image before told it.

@@ -5,6 +5,7 @@ use Rattle.byteorder.specs.Endian.{big_number}
 use Rattle.sha2.specs.Sha256.{sha256}
 use Rattle.vdisk.specs.Ranges.{part}
 use Rattle.byte_map.specs.Words.{Map}
+use Rattle.meta_log.specs.declared.limits.TheConstants.{BEFORE_BODY, CHECKPOINT_HEAD}
 use Rattle.meta_log.specs.Records.{Record, records_of, changes, pairs_of, ascending}
 
 -- SHA-256 of FIPS 180-4. No lemma on what a torn write leaves looks into it.
@@ -23,12 +24,12 @@ abbrev pub group_length : List ℕ → ℕ
 group_length bytes = big_number 4 bytes
 
 abbrev pub group_body : List ℕ → List ℕ
-group_body bytes = part 36 (group_length bytes) bytes
+group_body bytes = part BEFORE_BODY (group_length bytes) bytes
 
 -- the records of the group at the front of these bytes
 abbrev pub group_at : List ℕ → Option (List Record)
 group_at bytes =
-    if nat_lt (length bytes) (36 + group_length bytes) then None
+    if nat_lt (length bytes) (BEFORE_BODY + group_length bytes) then None
     else where_digest (part 4 32 bytes) (take 4 bytes ++ group_body bytes) (records_of (group_body bytes))
 
 -- a map changed by the groups up to the first closed gate, or up to the end, after so many bytes that are passed over
@@ -36,14 +37,14 @@ abbrev pub groups_from : ℕ → Map → List ℕ → Option Map
 groups_from skip m [] = Some m
 groups_from (suc skip) m (b ∷ bytes) = groups_from skip m bytes
 groups_from zero m (gate ∷ bytes) =
-    if gate == 1 then and_then (group_at bytes) (λ rs. groups_from (36 + group_length bytes) (changes rs m) bytes)
+    if gate == 1 then and_then (group_at bytes) (λ rs. groups_from (BEFORE_BODY + group_length bytes) (changes rs m) bytes)
     else Some m
 
 -- how many bytes the groups have up to the first closed gate, or up to the end, after so many that are passed over
 abbrev pub groups_length : ℕ → List ℕ → ℕ
 groups_length skip [] = 0
 groups_length (suc skip) (b ∷ bytes) = suc (groups_length skip bytes)
-groups_length zero (gate ∷ bytes) = if gate == 1 then suc (groups_length (36 + group_length bytes) bytes) else 0
+groups_length zero (gate ∷ bytes) = if gate == 1 then suc (groups_length (BEFORE_BODY + group_length bytes) bytes) else 0
 
 -- A half begins with a checkpoint: gate [1], epoch [8], the length of the body [4], the digest of these two and the
 -- body [32], and the body.
@@ -57,7 +58,7 @@ abbrev pub body_length : List ℕ → ℕ
 body_length half = big_number 4 (drop 9 half)
 
 abbrev pub body_of : List ℕ → List ℕ
-body_of half = part 45 (body_length half) half
+body_of half = part CHECKPOINT_HEAD (body_length half) half
 
 -- the pairs of a checkpoint, which is a list of Put records with strictly ascending keys
 abbrev pub checkpoint_map : List ℕ → Option Map
@@ -73,19 +74,19 @@ is_epoch e = nat_lt 0 e && nat_lt e (2 ^ 63)
 -- the pairs of the checkpoint at the front of a half
 abbrev pub checkpoint_at : List ℕ → Option Map
 checkpoint_at half =
-    if nat_lt (length half) (45 + body_length half) then None
+    if nat_lt (length half) (CHECKPOINT_HEAD + body_length half) then None
     else where_digest (part 13 32 half) (part 1 12 half ++ body_of half) (checkpoint_map (body_of half))
 
 -- the map that a live half spells
 abbrev pub map_of_half : List ℕ → Option Map
 map_of_half half =
     if is_epoch (epoch_of half)
-    then and_then (checkpoint_at half) (λ m. groups_from 0 m (drop (45 + body_length half) half))
+    then and_then (checkpoint_at half) (λ m. groups_from 0 m (drop (CHECKPOINT_HEAD + body_length half) half))
     else None
 
 -- where the groups behind the checkpoint of a half end
 abbrev pub groups_end : List ℕ → ℕ
-groups_end half = 45 + body_length half + groups_length 0 (drop (45 + body_length half) half)
+groups_end half = CHECKPOINT_HEAD + body_length half + groups_length 0 (drop (CHECKPOINT_HEAD + body_length half) half)
 
 -- the half with an open gate and the greater epoch, where there is one
 abbrev pub live_of : List ℕ → List ℕ → Option ℕ

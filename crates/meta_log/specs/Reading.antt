@@ -3,6 +3,7 @@ use Rattle.std.specs.Prelude.{◌≡◌, ◌<◌, ◌≤◌, ◌+◌, ◌*◌, �
 use Rattle.std.specs.FinMap.Entries.{is_sorted}
 use Rattle.vdisk.specs.Ranges.{part}
 use Rattle.byte_map.specs.Words.{Map, bytes_cmp, bytes_in}
+use Rattle.meta_log.specs.declared.limits.TheConstants.{BEFORE_BODY, CHECKPOINT_HEAD, RECORD_HEAD}
 use Rattle.meta_log.specs.Records.{Record, Put, DropRange, change, changes, first_length, second_length, rest_length, record_at, records_of, pairs_of}
 use Rattle.meta_log.specs.Spelled.{Fits}
 use Rattle.meta_log.specs.Short.{are_short}
@@ -18,7 +19,7 @@ record_of Drops first second = DropRange first second
 
 -- the bytes of a map's Put records, each of which has five bytes before its pair
 abbrev pub records_bytes : Map → ℕ
-records_bytes m = 5 * length m + bytes_in m
+records_bytes m = RECORD_HEAD * length m + bytes_in m
 
 abbrev pub strings_bytes : Record → ℕ
 strings_bytes (Put key value) = length key + length value
@@ -65,15 +66,15 @@ pub record IsTaken (bytes : List ℕ) (old new : Map) (n : ℕ) : Type 0 where
 -- the group at the front of these bytes is whole, and its digest is right
 pub record IsGroupOf (bytes : List ℕ) (n : ℕ) : Type 0 where
   pub count : n ≡ group_length bytes
-  pub whole : 36 + n ≤ length bytes
-  pub reads : group_at bytes ≡ records_of (part 36 n bytes)
+  pub whole : BEFORE_BODY + n ≤ length bytes
+  pub reads : group_at bytes ≡ records_of (part BEFORE_BODY n bytes)
 
 -- the group at the front of these bytes, so many of them, has changed a map
 pub record IsGroupTaken (bytes : List ℕ) (old new : Map) (n : ℕ) : Type 0 where
   pub made : List Record
   pub reads : group_at bytes ≡ Some made
   pub changed : new ≡ changes made old
-  pub count : n ≡ 36 + group_length bytes
+  pub count : n ≡ BEFORE_BODY + group_length bytes
   pub within : n ≤ length bytes
   pub fits : records_bytes new ≤ records_bytes old + n
   pub spellable : IsSpellable new
@@ -82,8 +83,8 @@ pub record IsGroupTaken (bytes : List ℕ) (old new : Map) (n : ℕ) : Type 0 wh
 pub record IsCheckpointOf (half : List ℕ) (n : ℕ) : Type 0 where
   pub epoch : is_epoch (epoch_of half) ≡ true
   pub count : n ≡ body_length half
-  pub whole : 45 + n ≤ length half
-  pub reads : checkpoint_at half ≡ checkpoint_map (part 45 n half)
+  pub whole : CHECKPOINT_HEAD + n ≤ length half
+  pub reads : checkpoint_at half ≡ checkpoint_map (part CHECKPOINT_HEAD n half)
 
 -- A half was read up to a place: whatever stands from there on, the half's map is this one changed by the groups there,
 -- and its groups end where those do. A checkpoint of it takes no more bytes than were read.
@@ -93,5 +94,5 @@ pub record IsReadTo (place : ℕ) (half : List ℕ) (m : Map) : Type 0 where
   pub ends : (s : List ℕ) → length s ≡ length half → take place s ≡ take place half
       → groups_end s ≡ place + groups_length 0 (drop place s)
   pub within : place ≤ length half
-  pub fits : 45 + records_bytes m ≤ place
+  pub fits : CHECKPOINT_HEAD + records_bytes m ≤ place
   pub spellable : IsSpellable m

@@ -3,6 +3,7 @@ use Rattle.std.specs.Prelude.{◌≡◌, ◌≢◌, ◌⊎◌, ◌<◌, ◌≤�
 use Rattle.vdisk.specs.Disk.{DiskState, ChangedWithin}
 use Rattle.vdisk.specs.Ranges.{part}
 use Rattle.byte_map.specs.Words.{Map}
+use Rattle.meta_log.specs.declared.limits.TheConstants.{CHECKPOINT_HEAD}
 use Rattle.meta_log.specs.Meta.{map_of_half, groups_from, groups_length, groups_end, epoch_of, epoch_in, place_in, meta_of}
 
 -- Where a journal stands on its disk: its two halves of so many bytes, one behind the other, which of them is live
@@ -30,7 +31,7 @@ pub record GoesOn (place : ℕ) (half : List ℕ) (m : Map) : Type 0 where
       → groups_end s ≡ place + groups_length 0 (drop place s)
   pub closed : get_or half place 0 ≢ 1
   pub within : place ≤ length half
-  pub behind : 45 ≤ place
+  pub behind : CHECKPOINT_HEAD ≤ place
 
 -- The half is live beside the other one: its gate is open, and the other's is closed, or stands over a lesser epoch.
 pub record IsLive (epoch : ℕ) (other_open : Bool) (half other : List ℕ) : Type 0 where

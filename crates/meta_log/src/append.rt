@@ -4,6 +4,7 @@ ghost use Rattle.vdisk.specs.Causes.{Rose};
 ghost use Rattle.vdisk.specs.Disk.{DiskState, ChangedWithin};
 ghost use Rattle.vdisk.specs.Steps.{Keeps};
 ghost use Rattle.byte_map.specs.Words.{Map};
+ghost use Rattle.meta_log.specs.declared.limits.TheConstants.{GROUP_HEAD};
 ghost use Rattle.meta_log.specs.Ready.{IsCommitImage, IsSettledImage};
 
 use crate::fault::MetaFault;
@@ -18,7 +19,7 @@ impl<D: Disk> MetaLog<D> {
 
     /// Makes what is staged durable behind the last group of the live half.
     pub(crate) fn append(&mut self) -> Result<(), MetaFault>
-        requires fits { self.old.place + (37 + staged_of self.old) ≤ self.old.half }
+        requires fits { self.old.place + (GROUP_HEAD + staged_of self.old) ≤ self.old.half }
         ensures moments { (m : Map) → IsLog self.old m → Keeps (state_of self.old) (state_of self.new)
             (IsCommitImage self.old.at self.old.half (state_of self.old) (now_of self.old)) }
         ensures ok { (m : Map) → IsLog self.old m → OnOk result (IsLog self.new (now_of self.old)) }
@@ -30,7 +31,7 @@ impl<D: Disk> MetaLog<D> {
         ensures place { (self.new.at ≡ self.old.at) × (self.new.half ≡ self.old.half) }
         ensures staged { OnOk result (staged_of self.new ≡ 0) }
         ensures epoch { self.new.epoch ≡ self.old.epoch }
-        ensures next { OnOk result (self.new.place ≡ self.old.place + (37 + staged_of self.old)) }
+        ensures next { OnOk result (self.new.place ≡ self.old.place + (GROUP_HEAD + staged_of self.old)) }
         ensures failed { OnErr result
             (IsErrOf result Failed × Rose (state_of self.old).faults (state_of self.new).faults) }
         ensures stopped { OnErr result (self.new.stopped ≡ true) }

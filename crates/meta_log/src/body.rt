@@ -5,6 +5,7 @@ ghost use Rattle.byte_map.specs.Words.{bytes_in};
 ghost use Rattle.sha2.specs.Hashers.{Holds256};
 ghost use Rattle.vdisk.specs.Causes.{HasCause};
 ghost use Rattle.vdisk.specs.Ranges.{part};
+ghost use Rattle.meta_log.specs.declared.limits.TheConstants.{RECORD_HEAD};
 ghost use Rattle.meta_log.specs.Records.{Put};
 ghost use Rattle.meta_log.specs.Spelled.{bytes_of};
 ghost use Rattle.meta_log.specs.Short.{are_short};
@@ -94,7 +95,7 @@ impl HashedStream {
         requires room { STREAM_ROOM ≤ vec_capacity waiting.old }
         requires few { length waiting.old.items ≤ STREAM_ROOM }
         requires short { are_short map.now ≡ true }
-        requires range { self.old.stream.place + (length waiting.old.items + (5 * length map.now + bytes_in map.now))
+        requires range { self.old.stream.place + (length waiting.old.items + (RECORD_HEAD * length map.now + bytes_in map.now))
             ≤ length (D.state disk.old).image }
         ensures goes_on { OnOk result (Advances (body_text map.now) self.old.stream.place
             waiting.old.items (D.state disk.old) self.new.stream.place waiting.new.items (D.state disk.new)) }
@@ -102,7 +103,7 @@ impl HashedStream {
             OnOk result (Holds256 self.new.hasher (m ++ body_text map.now)) }
         ensures few { OnOk result (length waiting.new.items ≤ STREAM_ROOM) }
         ensures within { WritesWithin self.old.stream.place
-            (length waiting.old.items + (5 * length map.now + bytes_in map.now)) (D.state disk.old) (D.state disk.new) }
+            (length waiting.old.items + (RECORD_HEAD * length map.now + bytes_in map.now)) (D.state disk.old) (D.state disk.new) }
         ensures room { vec_capacity waiting.old ≤ vec_capacity waiting.new }
         ensures same { D.is_same disk.old disk.new }
         ensures cause { HasCause (D.state disk.old).faults (D.state disk.new).faults result }
@@ -156,14 +157,14 @@ pub(crate) fn write_body<D: Disk>(
     requires room { STREAM_ROOM ≤ vec_capacity scratch.old }
     requires short { are_short map.now ≡ true }
     requires piece { length behind.now ≤ STREAM_ROOM }
-    requires range { from + ((5 * length map.now + bytes_in map.now) + length behind.now)
+    requires range { from + ((RECORD_HEAD * length map.now + bytes_in map.now) + length behind.now)
         ≤ length (D.state disk.old).image }
     ensures text { IsTrue (D.state disk.old).tells → OnOk result (part from (length (body_text map.now ++ behind.now))
         (D.state disk.new).image ≡ body_text map.now ++ behind.now) }
     ensures digest { IfOk result (λ digest. digest
         ≡ digest_of ((big_bytes 8 numbers.0 ++ big_bytes 4 numbers.1) ++ body_text map.now)) }
     ensures size { IfOk result (λ digest. length digest ≡ 32) }
-    ensures within { WritesWithin from ((5 * length map.now + bytes_in map.now) + length behind.now)
+    ensures within { WritesWithin from ((RECORD_HEAD * length map.now + bytes_in map.now) + length behind.now)
         (D.state disk.old) (D.state disk.new) }
     ensures room { vec_capacity scratch.old ≤ vec_capacity scratch.new }
     ensures same { D.is_same disk.old disk.new }

@@ -7,6 +7,7 @@ ghost use Rattle.vdisk.specs.Disk.{Only};
 ghost use Rattle.vdisk.specs.Ranges.{part};
 ghost use Rattle.vdisk.specs.Steps.{Keeps};
 ghost use Rattle.byte_map.specs.Words.{Map, bytes_cmp, bytes_in};
+ghost use Rattle.meta_log.specs.declared.limits.TheConstants.{CHECKPOINT_HEAD};
 ghost use Rattle.meta_log.specs.Short.{are_short};
 ghost use Rattle.meta_log.specs.Ready.{Layout, Stands, IsCommitImage};
 ghost use Rattle.meta_log.specs.Checkpoint.{body_text, IsCheckpoint, IsHalfImage};
@@ -20,9 +21,9 @@ use vdisk::{Disk, Failed, write_synced};
 /// The bytes of the body of a map's checkpoint.
 #[tactic(auto, using(crate::proofs::Checkpoints::length_body))]
 pub(crate) fn body_bytes(map: &ByteMap) -> u64
-    requires { 5 * length map.now + bytes_in map.now < 2 ^ 64 }
+    requires { RECORD_HEAD * length map.now + bytes_in map.now < 2 ^ 64 }
     ensures text { result ≡ length (body_text map.now) }
-    ensures sum { result ≡ 5 * length map.now + bytes_in map.now }
+    ensures sum { result ≡ RECORD_HEAD * length map.now + bytes_in map.now }
     ensures sorted { T (is_sorted bytes_cmp map.now) }
 {
     RECORD_HEAD * map.count() as u64 + map.bytes()
@@ -60,7 +61,7 @@ fn write_behind<D: Disk>(
 ) -> Result<(), Failed>
     requires room { STREAM_ROOM ≤ vec_capacity scratch.old }
     requires short { are_short map.now ≡ true }
-    requires fits { 45 + (5 * length map.now + bytes_in map.now) ≤ half }
+    requires fits { CHECKPOINT_HEAD + (RECORD_HEAD * length map.now + bytes_in map.now) ≤ half }
     requires small { half < 2 ^ 32 }
     requires range { at + half ≤ length (D.state disk.old).image }
     ensures written { IsTrue (D.state disk.old).tells →
@@ -91,7 +92,7 @@ pub(crate) fn write_half<D: Disk>(
 ) -> Result<(), Failed>
     requires room { STREAM_ROOM ≤ vec_capacity scratch.old }
     requires short { are_short map.now ≡ true }
-    requires fits { 45 + (5 * length map.now + bytes_in map.now) ≤ half }
+    requires fits { CHECKPOINT_HEAD + (RECORD_HEAD * length map.now + bytes_in map.now) ≤ half }
     requires small { half < 2 ^ 32 }
     requires range { at + half ≤ length (D.state disk.old).image }
     ensures moments { IsTrue (D.state disk.old).tells →

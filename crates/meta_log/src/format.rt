@@ -2,6 +2,7 @@
 ghost use Rattle.std.specs.Prelude.{◌≡◌, ◌⊎◌, ◌<◌, ◌≤◌, ◌+◌, ◌*◌, ◌^◌, [], ℕ, IsTrue, false, length, vec_capacity, IfOk, IfErr, OnOk, OnErr};
 ghost use Rattle.vdisk.specs.Causes.{Rose, HasCause};
 ghost use Rattle.vdisk.specs.Steps.{Keeps};
+ghost use Rattle.meta_log.specs.declared.limits.TheConstants.{CHECKPOINT_HEAD};
 ghost use Rattle.meta_log.specs.declared.fault.MetaFault.TheVariants.{Failed, Memory};
 ghost use Rattle.meta_log.specs.Ready.{Stands};
 ghost use Rattle.meta_log.specs.Format.{fresh, IsFormatImage};
@@ -61,7 +62,7 @@ impl<D: Disk> MetaLog<D> {
         ensures place { IfOk result (λ log. (log.at ≡ at) × (log.half ≡ half)) }
         ensures staged { IfOk result (λ log. staged_of log ≡ 0) }
         ensures epoch { IfOk result (λ log. log.epoch ≡ 1) }
-        ensures next { IfOk result (λ log. log.place ≡ 45) }
+        ensures next { IfOk result (λ log. log.place ≡ CHECKPOINT_HEAD) }
         ensures runs { IfOk result (λ log. log.stopped ≡ false) }
         // At each moment only the halves have changed, and from when both gates are closed they spell nothing, or the
         // empty map.

@@ -3,6 +3,7 @@ ghost use Rattle.std.specs.Prelude.{◌≡◌, ◌<◌, ◌≤◌, ◌+◌, ◌+
 ghost use Rattle.vdisk.specs.Causes.{HasCause};
 ghost use Rattle.vdisk.specs.Disk.{DiskState, Holds, ChangedWithin, Only};
 ghost use Rattle.vdisk.specs.Steps.{TornWithin};
+ghost use Rattle.meta_log.specs.declared.limits.TheConstants.{STAGED_ROOM};
 ghost use Rattle.meta_log.specs.Meta.{digest_of};
 ghost use Rattle.meta_log.specs.Group.{group_text, gate_behind};
 
@@ -13,9 +14,9 @@ use vdisk::{Disk, Failed, write_synced};
 
 /// Writes the length of a group's body and the digest of both in front of the body. It takes no memory.
 pub(crate) fn seal(group: &mut Vec<u8>)
-    requires head { 36 ≤ length group.old.items }
-    requires short { length group.old.items ≤ 65572 }
-    ensures items { group.new.items ≡ group_text (drop 36 group.old.items) }
+    requires head { BEFORE_BODY ≤ length group.old.items }
+    requires short { length group.old.items < STAGED_ROOM }
+    ensures items { group.new.items ≡ group_text (drop BEFORE_BODY group.old.items) }
     ensures len { length group.new.items ≡ length group.old.items }
     ensures capacity { vec_capacity group.old ≤ vec_capacity group.new }
 {
@@ -24,9 +25,9 @@ pub(crate) fn seal(group: &mut Vec<u8>)
 
 #[tactic(auto, unfolding(crate::specs::Group::group_text))]
 fn seal_bytes(group: &mut [u8])
-    requires head { 36 ≤ length group.old }
-    requires short { length group.old ≤ 65572 }
-    ensures { group.new ≡ group_text (drop 36 group.old) }
+    requires head { BEFORE_BODY ≤ length group.old }
+    requires short { length group.old < STAGED_ROOM }
+    ensures { group.new ≡ group_text (drop BEFORE_BODY group.old) }
 {
     let count = (group.len() - BEFORE_BODY) as u32;
     BigEndian::write_u32(group, count);
@@ -36,8 +37,8 @@ fn seal_bytes(group: &mut [u8])
 
 // The digest of a group's length and body.
 fn group_digest(group: &[u8]) -> [u8; 32]
-    requires { 36 ≤ length group.now }
-    ensures digest { result ≡ digest_of (take 4 group.now ++ drop 36 group.now) }
+    requires { BEFORE_BODY ≤ length group.now }
+    ensures digest { result ≡ digest_of (take 4 group.now ++ drop BEFORE_BODY group.now) }
     ensures size { length result ≡ 32 }
 {
     digest_of_parts(&group[..4], &group[BEFORE_BODY..])

@@ -1,12 +1,13 @@
 // Reading a half: its checkpoint, and the groups behind it.
 ghost use Rattle.std.specs.Prelude.{◌≡◌, ◌<◌, ◌≤◌, ◌+◌, ◌^◌, ◌++◌, ◌==◌, length, get_or, nat_eq, true, IfOk, OnOk, IsErrOf, IfSome, IfNone};
 ghost use Rattle.std.specs.Cmp.Lexicographic.{pointwise};
+ghost use Rattle.meta_log.specs.declared.limits.TheConstants.{LEAST_HALF};
 ghost use Rattle.meta_log.specs.Meta.{digest_of, group_at, map_of_half, epoch_of};
 ghost use Rattle.meta_log.specs.Ready.{GoesOn};
 ghost use Rattle.meta_log.specs.Reading.{IsGroupOf, IsGroupTaken, IsCheckpointOf, IsReadTo, IsSpellable, records_bytes};
 
 use crate::digest::digest_of_parts;
-use crate::limits::{BEFORE_BODY, LAST_EPOCH};
+use crate::limits::{BEFORE_BODY, CHECKPOINT_HEAD, LAST_EPOCH};
 use crate::pieces::{piece, rest_from};
 use crate::records::{Unread, read_pairs, take_records};
 use byte_map::ByteMap;
@@ -61,7 +62,7 @@ pub(crate) fn epoch_in(half: &[u8]) -> u64
 // The length of the body of the checkpoint at the front of a half; there is none where its epoch is out of range, it
 // passes the half, or its digest differs.
 fn checkpoint_body_length(half: &[u8]) -> Option<usize>
-    requires { 45 ≤ length half.now }
+    requires { LEAST_HALF ≤ length half.now }
     ensures some { IfSome result (λ n. IsCheckpointOf half.now n) }
     ensures none { IfNone result (map_of_half half.now ≡ None) }
 {
@@ -70,13 +71,13 @@ fn checkpoint_body_length(half: &[u8]) -> Option<usize>
         return None;
     }
     let length = BigEndian::read_u32(rest_from(half, 9)) as usize;
-    if half.len() < 45 + length {
+    if half.len() < CHECKPOINT_HEAD + length {
         return None;
     }
     if !has_digest(
         piece(half, 13, 32),
         piece(half, 1, 12),
-        piece(half, 45, length),
+        piece(half, CHECKPOINT_HEAD, length),
     ) {
         return None;
     }
@@ -110,7 +111,7 @@ fn take_group(bytes: &[u8], map: &mut ByteMap) -> Result<usize, Unread>
 fn take_groups(half: &[u8], from: usize, map: &mut ByteMap) -> Result<usize, Unread>
     requires { from ≤ length half.now }
     ensures ok { IsReadTo from half.now map.old → IfOk result (λ place. GoesOn place half.now map.new) }
-    ensures fits { IsReadTo from half.now map.old → IfOk result (λ place. 45 + records_bytes map.new ≤ place) }
+    ensures fits { IsReadTo from half.now map.old → IfOk result (λ place. CHECKPOINT_HEAD + records_bytes map.new ≤ place) }
     ensures spellable { IsReadTo from half.now map.old → OnOk result (IsSpellable map.new) }
     ensures within { IfOk result (λ place. place ≤ length half.now) }
     ensures damaged { IsReadTo from half.now map.old → IsErrOf result Unread.Damaged → map_of_half half.now ≡ None }
@@ -127,9 +128,9 @@ fn take_groups(half: &[u8], from: usize, map: &mut ByteMap) -> Result<usize, Unr
 
 /// What a live half spells.
 pub(crate) fn read_half(alloc: Global, half: &[u8]) -> Result<Found, Unread>
-    requires { 45 ≤ length half.now }
+    requires { LEAST_HALF ≤ length half.now }
     ensures ok { IfOk result (λ found. GoesOn found.place half.now found.map) }
-    ensures fits { IfOk result (λ found. 45 + records_bytes found.map ≤ found.place) }
+    ensures fits { IfOk result (λ found. CHECKPOINT_HEAD + records_bytes found.map ≤ found.place) }
     ensures spellable { IfOk result (λ found. IsSpellable found.map) }
     ensures within { IfOk result (λ found. found.place ≤ length half.now) }
     ensures epoch { IfOk result (λ found. found.epoch ≡ epoch_of half.now) }
@@ -139,8 +140,8 @@ pub(crate) fn read_half(alloc: Global, half: &[u8]) -> Result<Found, Unread>
     let Some(length) = checkpoint_body_length(half) else {
         return Err(Unread::Damaged);
     };
-    let mut map = read_pairs(alloc, piece(half, 45, length))?;
-    match take_groups(half, 45 + length, &mut map) {
+    let mut map = read_pairs(alloc, piece(half, CHECKPOINT_HEAD, length))?;
+    match take_groups(half, CHECKPOINT_HEAD + length, &mut map) {
         Ok(place) => Ok(Found {
             epoch: epoch_in(half),
             map,

@@ -1,6 +1,7 @@
 // The journal: its disk, its map and what is staged.
 ghost use Rattle.std.specs.Prelude.{◌≡◌, ◌⊎◌, ◌<◌, ◌≤◌, ◌+◌, ◌-◌, ◌*◌, ◌^◌, ℕ, Bool, true, length, vec_capacity};
 ghost use Rattle.byte_map.specs.Words.{Map, bytes_in};
+ghost use Rattle.meta_log.specs.declared.limits.TheConstants.{BEFORE_BODY, CHECKPOINT_HEAD, LEAST_HALF, RECORD_HEAD, STAGED_ROOM, STREAM_ROOM};
 ghost use Rattle.meta_log.specs.Short.{are_short};
 
 use crate::limits::BEFORE_BODY;
@@ -30,25 +31,25 @@ pub struct MetaLog<D: Disk> {
     // Whether a write or a sync has failed.
     pub(crate) stopped: bool,
     ghost on_disk: { at + 2 * half ≤ length (D.state disk).image },
-    ghost least: { 45 ≤ half },
+    ghost least: { LEAST_HALF ≤ half },
     ghost most: { half < 2 ^ 32 },
     ghost live_low: { at ≤ live_at },
     ghost live_high: { live_at ≤ at + half },
     ghost other_low: { at ≤ other_at },
     ghost other_high: { other_at ≤ at + half },
-    ghost behind: { 45 ≤ place },
+    ghost behind: { CHECKPOINT_HEAD ≤ place },
     ghost within: { place ≤ half },
     ghost counts: { 1 ≤ epoch },
     ghost last: { epoch < 2 ^ 63 },
     // With all that is staged the map still fits a half, as a checkpoint.
-    ghost fits: { 45 + (5 * length map + bytes_in map) ≤ half },
+    ghost fits: { CHECKPOINT_HEAD + (RECORD_HEAD * length map + bytes_in map) ≤ half },
     // Its records have their lengths in two bytes.
     ghost short: { are_short map ≡ true },
-    ghost head: { 36 ≤ length staged.items },
-    ghost few: { length staged.items ≤ 65572 },
+    ghost head: { BEFORE_BODY ≤ length staged.items },
+    ghost few: { length staged.items < STAGED_ROOM },
     // A group and the gate behind it are made without memory, and so is a checkpoint.
-    ghost room: { 65573 ≤ vec_capacity staged },
-    ghost stream: { 65536 ≤ vec_capacity scratch },
+    ghost room: { STAGED_ROOM ≤ vec_capacity staged },
+    ghost stream: { STREAM_ROOM ≤ vec_capacity scratch },
 }
 
 impl<D: Disk> MetaLog<D> {

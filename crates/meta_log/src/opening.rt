@@ -3,6 +3,7 @@ ghost use Rattle.std.specs.Prelude.{◌≡◌, ◌⊎◌, ◌<◌, ◌≤◌, �
 ghost use Rattle.vdisk.specs.Causes.{Rose, HasCause};
 ghost use Rattle.vdisk.specs.Disk.{DiskState, Only};
 ghost use Rattle.vdisk.specs.Ranges.{part};
+ghost use Rattle.meta_log.specs.declared.limits.TheConstants.{BEFORE_BODY, CHECKPOINT_HEAD, LEAST_HALF, STAGED_ROOM, STREAM_ROOM};
 ghost use Rattle.meta_log.specs.Meta.{is_open, epoch_of, map_of_half, meta_of};
 ghost use Rattle.meta_log.specs.Ready.{AreHalves, GoesOn, GoesOnFrom, Stands};
 ghost use Rattle.meta_log.specs.Reading.{IsSpellable, records_bytes};
@@ -56,7 +57,7 @@ fn read_headers<D: Disk>(
     half: u64,
 ) -> Result<(HalfHeader, HalfHeader), Failed>
     requires range { at + 2 * half ≤ length (D.state disk.old).image }
-    requires least { 45 ≤ half }
+    requires least { LEAST_HALF ≤ half }
     ensures first_gate { IsTrue (D.state disk.old).tells →
         IfOk result (λ headers. headers.0.is_open ≡ is_open (part at 9 (D.state disk.old).image)) }
     ensures first_epoch { IsTrue (D.state disk.old).tells →
@@ -107,7 +108,7 @@ fn choose(first: HalfHeader, second: HalfHeader, at: u64, half: u64) -> Option<C
 // The live half, on a disk that is then synced.
 fn find_live<D: Disk>(disk: &mut D, at: u64, half: u64) -> Result<Choice, MetaFault>
     requires range { at + 2 * half ≤ length (D.state disk.old).image }
-    requires least { 45 ≤ half }
+    requires least { LEAST_HALF ≤ half }
     ensures chosen { IsTrue (D.state disk.old).tells →
         IfOk result (λ choice. IsChosen at half (D.state disk.old).image choice) }
     ensures settled { IsTrue (D.state disk.old).tells →
@@ -166,12 +167,12 @@ fn read_live<D: Disk>(
     number: u8,
 ) -> Result<Found, MetaFault>
     requires range { at + half ≤ length (D.state disk.old).image }
-    requires least { 45 ≤ half }
+    requires least { LEAST_HALF ≤ half }
     ensures goes_on { IsTrue (D.state disk.old).tells →
         IfOk result (λ found. GoesOn found.place (part at half (D.state disk.old).image) found.map) }
     ensures epoch { IsTrue (D.state disk.old).tells →
         IfOk result (λ found. found.epoch ≡ epoch_of (part at half (D.state disk.old).image)) }
-    ensures fits { IfOk result (λ found. 45 + records_bytes found.map ≤ found.place) }
+    ensures fits { IfOk result (λ found. CHECKPOINT_HEAD + records_bytes found.map ≤ found.place) }
     ensures spellable { IfOk result (λ found. IsSpellable found.map) }
     ensures within { IfOk result (λ found. found.place ≤ half) }
     ensures counts { IfOk result (λ found. (1 ≤ found.epoch) × (found.epoch < 2 ^ 63)) }
@@ -206,7 +207,7 @@ fn read_journal<D: Disk>(
     half: u64,
 ) -> Result<Journal, MetaFault>
     requires range { at + 2 * half ≤ length (D.state disk.old).image }
-    requires least { 45 ≤ half }
+    requires least { LEAST_HALF ≤ half }
     ensures stands { IsTrue (D.state disk.old).tells → IfOk result (λ journal.
         Stands (chosen_layout at half journal.choice journal.found.place journal.found.epoch) (D.state disk.new)
         journal.found.map) }
@@ -215,13 +216,13 @@ fn read_journal<D: Disk>(
     ensures goes_on { IsTrue (D.state disk.old).tells →
         IfOk result (λ journal. GoesOnFrom at half journal.found.place journal.found.epoch (D.state disk.old).image) }
     ensures halves { IfOk result (λ journal. AreHalves at half journal.choice.live_at journal.choice.other_at) }
-    ensures fits { IfOk result (λ journal. 45 + records_bytes journal.found.map ≤ journal.found.place) }
+    ensures fits { IfOk result (λ journal. CHECKPOINT_HEAD + records_bytes journal.found.map ≤ journal.found.place) }
     ensures spellable { IfOk result (λ journal. IsSpellable journal.found.map) }
     ensures within { IfOk result (λ journal. journal.found.place ≤ half) }
     ensures counts { IfOk result (λ journal. (1 ≤ journal.found.epoch) × (journal.found.epoch < 2 ^ 63)) }
-    ensures room { IfOk result (λ journal. 65573 ≤ vec_capacity journal.staged) }
-    ensures head { IfOk result (λ journal. length journal.staged.items ≡ 36) }
-    ensures stream { IfOk result (λ journal. 65536 ≤ vec_capacity journal.scratch) }
+    ensures room { IfOk result (λ journal. STAGED_ROOM ≤ vec_capacity journal.staged) }
+    ensures head { IfOk result (λ journal. length journal.staged.items ≡ BEFORE_BODY) }
+    ensures stream { IfOk result (λ journal. STREAM_ROOM ≤ vec_capacity journal.scratch) }
     ensures damaged { IsTrue (D.state disk.old).tells →
         IfErr result (λ e. (h : ℕ) → e ≡ MetaFault.Damaged h → meta_of at half (D.state disk.old).image ≡ Err h) }
     ensures refused { IfErr result (λ e. IsOpenFault e) }
@@ -252,7 +253,7 @@ impl<D: Disk> MetaLog<D> {
         at: u64,
         half: u64,
     ) -> Result<MetaLog<D>, (D, MetaFault)>
-        requires least { 45 ≤ half }
+        requires least { LEAST_HALF ≤ half }
         requires most { half < 2 ^ 32 }
         requires range { at + 2 * half ≤ length (D.state disk).image }
 
