@@ -2,6 +2,7 @@
 
 ghost use Rattle.std.specs.Prelude.{◌≡◌, ◌≤◌, OnOk, IfOk, IfErr};
 ghost use Rattle.table_records.specs.WellFormed.{AllWellFormed};
+ghost use Rattle.volume_inside.specs.declared.layout.TheConstants.{LEAST_CLUSTERS};
 ghost use Rattle.volume_inside.specs.Named.{clusters_of};
 ghost use Rattle.volume_inside.specs.Typed.{typed_of};
 ghost use Rattle.volume_inside.specs.Rules.{RecordsHold, IsVolume, next_id_of};
@@ -48,7 +49,7 @@ fn check_records(alloc: Global, map: &ByteMap) -> Result<Records, TableFault>
 
 /// Checks the tables of an image of so many clusters by all rules. The least one that is broken is told.
 pub fn check(alloc: Global, clusters: u32, map: &ByteMap) -> Result<Checked, TableFault>
-    requires { 4096 ≤ clusters }
+    requires { LEAST_CLUSTERS ≤ clusters }
     ensures volume { OnOk result (IsVolume clusters map.now) }
     ensures records { IfOk result (λ found. AreRecordsOf (typed_of map.now) found.records) }
     ensures space { IfOk result (λ found. IsFilled clusters (clusters_of (typed_of map.now)) found.space) }

@@ -151,7 +151,7 @@ impl<'a> PairRule for ContainerRule<'a> {
 
 /// Whether a container has each page as far as so many bytes are used.
 fn has_pages(map: &ByteMap, id: u64, used: u32) -> bool
-    ensures { IsTrue result ↔ ((index : ℕ) → 4096 * index < used
+    ensures { IsTrue result ↔ ((index : ℕ) → CLUSTER_BYTES * index < used
         → IsSome (find pair_cmp (id, index) (typed_of map.now).chunks.clusters)) }
 {
     for index in 0..pages_of(used) {
@@ -164,8 +164,8 @@ fn has_pages(map: &ByteMap, id: u64, used: u32) -> bool
 
 /// How many pages so many bytes take.
 fn pages_of(used: u32) -> u32
-    ensures enough { used ≤ 4096 * result }
-    ensures needed { (index : ℕ) → index < result → 4096 * index < used }
+    ensures enough { used ≤ CLUSTER_BYTES * result }
+    ensures needed { (index : ℕ) → index < result → CLUSTER_BYTES * index < used }
 {
     used / CLUSTER_BYTES + (used % CLUSTER_BYTES > 0) as u32
 }

@@ -2,6 +2,7 @@
 
 ghost use Rattle.std.specs.Prelude.{◌≡◌, ◌↔◌, ◌<◌, ◌≤◌, ℕ, List, IsTrue, IfOk, IfSome, IfNone, length, slice_set};
 ghost use Rattle.cluster_space.specs.States.{IsIn};
+ghost use Rattle.volume_inside.specs.declared.layout.TheConstants.{LEAST_CLUSTERS};
 ghost use Rattle.volume_inside.specs.Layout.{AreData};
 ghost use Rattle.volume_inside.specs.Layout.{data_clusters as data_clusters_of, first_data_cluster as first_of};
 ghost use Rattle.volume_inside.specs.Named.{clusters_of};
@@ -103,7 +104,7 @@ pub(crate) fn mark_clusters(
     map: &ByteMap,
     clusters: u32,
 ) -> Result<Option<Space>, Memory>
-    requires least { 4096 ≤ clusters }
+    requires least { LEAST_CLUSTERS ≤ clusters }
     requires data { AreData clusters (clusters_of (typed_of map.now)) }
     ensures filled { IfOk result (λ found. IfSome found (IsFilled clusters (clusters_of (typed_of map.now)))) }
     ensures once { IfOk result (λ found. IfSome found (λ space. ClustersHold (typed_of map.now))) }

@@ -3,6 +3,7 @@
 ghost use Rattle.std.specs.Prelude.{◌≡◌, ◌≤◌, OnOk, IfOk, IfErr, T};
 ghost use Rattle.std.specs.FinMap.Entries.{is_sorted};
 ghost use Rattle.byte_map.specs.Words.{bytes_cmp};
+ghost use Rattle.volume_inside.specs.declared.layout.TheConstants.{LEAST_CLUSTERS};
 ghost use Rattle.volume_inside.specs.Named.{clusters_of};
 ghost use Rattle.volume_inside.specs.Typed.{typed_of};
 ghost use Rattle.volume_inside.specs.Rules.{IsVolume};
@@ -20,7 +21,7 @@ use volume_inside::MountFault;
 /// What stands in the tables of an image of so many clusters; or why it is not mounted: a version that is not known,
 /// or else the least rule that is broken.
 pub fn read_tables(alloc: Global, clusters: u32, map: &ByteMap) -> Result<Checked, MountFault>
-    requires { 4096 ≤ clusters }
+    requires { LEAST_CLUSTERS ≤ clusters }
     ensures volume { OnOk result (IsVolume clusters map.now) }
     ensures records { IfOk result (λ found. AreRecordsOf (typed_of map.now) found.records) }
     ensures space { IfOk result (λ found. IsFilled clusters (clusters_of (typed_of map.now)) found.space) }
