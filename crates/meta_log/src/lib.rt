@@ -31,5 +31,5 @@ mod stream;
 mod turn_over;
 
 pub use fault::MetaFault;
-pub use limits::{LEAST_HALF, MOST_STAGED};
+pub use limits::{CHECKPOINT_HEAD, GROUP_HEAD, LEAST_HALF, MOST_STAGED, RECORD_HEAD};
 pub use log::MetaLog;

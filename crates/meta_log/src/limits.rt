@@ -9,14 +9,14 @@ pub const CHECKPOINT_HEAD: usize = 45;
 /// The bytes of the least half, which has room for an empty checkpoint.
 pub const LEAST_HALF: u64 = CHECKPOINT_HEAD as u64;
 
-// A group before its body: gate, length and digest.
-pub(crate) const GROUP_HEAD: u64 = 1 + BEFORE_BODY as u64;
+/// The bytes of a group before its body: gate, length and digest.
+pub const GROUP_HEAD: u64 = 1 + BEFORE_BODY as u64;
 
 // A group's length and digest, which stand between its gate and its body.
 pub(crate) const BEFORE_BODY: usize = 36;
 
-// A record before its two strings: tag and two lengths.
-pub(crate) const RECORD_HEAD: u64 = 5;
+/// The bytes of a record before its two strings: tag and two lengths.
+pub const RECORD_HEAD: u64 = 5;
 
 // The bytes that the buffer of the staged records has room for: those before them, and a closed gate behind them.
 pub(crate) const STAGED_ROOM: usize = BEFORE_BODY + MOST_STAGED + 1;

@@ -5,6 +5,7 @@ use Rattle.byte_map.specs.Words.{Map, bytes_cmp}
 use Rattle.meta_log.specs.Meta.{meta_of}
 use Rattle.vdisk.specs.Causes.{Rose}
 use Rattle.vdisk.specs.Disk.{DiskState, ChangedWithin, GrownTo}
+use Rattle.volume_inside.specs.declared.layout.TheConstants.{CLUSTER_BYTES}
 use Rattle.volume_inside.specs.Inside.{Inside}
 use Rattle.volume_inside.specs.InsideOf.{InsideOf}
 use Rattle.volume_inside.specs.Layout.{journal_at, half_bytes}
@@ -28,7 +29,7 @@ pub record SpellsFresh (at half : ℕ) (old c : List ℕ) : Type 0 where
 -- what might have been left before, grown to n clusters at most and with any bytes in the first one
 abbrev pub IsBegun : ℕ → DiskState → List ℕ → Type 0
 IsBegun n old c =
-    (d : List ℕ) × (e : List ℕ) × old.may_leave d × GrownTo (4096 * n) d e × ChangedWithin 0 4096 e c
+    (d : List ℕ) × (e : List ℕ) × old.may_leave d × GrownTo (CLUSTER_BYTES * n) d e × ChangedWithin 0 CLUSTER_BYTES e c
 
 -- the journal of an image of this size spells no map, or one without a file: no pair, or the tables of a fresh volume
 pub record SpellsNoFile (at half bytes : ℕ) (c : List ℕ) : Type 0 where
@@ -54,8 +55,8 @@ IsMakeImage n old c =
 abbrev pub IsFormatFault : ℕ → DiskState → DiskState → MountFault → Type 0
 IsFormatFault n old new NotVolume = ⊥
 IsFormatFault n old new (VersionUnknown found) = ⊥
-IsFormatFault n old new (SizeDiffers said size) = (said ≡ 4096 * n) × (size ≡ length old.image) × (said < size)
+IsFormatFault n old new (SizeDiffers said size) = (said ≡ CLUSTER_BYTES * n) × (size ≡ length old.image) × (said < size)
 IsFormatFault n old new (MetaDamaged half) = ⊥
 IsFormatFault n old new (BadTable rule) = ⊥
-IsFormatFault n old new Failed = (length old.image ≤ 4096 * n) × Rose old.faults new.faults
-IsFormatFault n old new Memory = length old.image ≤ 4096 * n
+IsFormatFault n old new Failed = (length old.image ≤ CLUSTER_BYTES * n) × Rose old.faults new.faults
+IsFormatFault n old new Memory = length old.image ≤ CLUSTER_BYTES * n

@@ -4,6 +4,7 @@ use Rattle.table_records.specs.Texts.{list_bytes}
 use Rattle.table_records.specs.declared.settings.Settings.{Settings}
 use Rattle.volume_inside.specs.ChunkTables.{ChunkTables, sum_of}
 use Rattle.volume_inside.specs.Typed.{Typed}
+use Rattle.meta_log.specs.declared.limits.TheConstants.{CHECKPOINT_HEAD}
 
 -- two flags, three numbers of four bytes, and two lists behind their counts
 abbrev pub settings_size : Settings → ℕ
@@ -39,7 +40,7 @@ chunks_in t = sum_of (λ K V c long size fixed es. length es) t
 
 -- the bytes of a checkpoint of tables, behind a head of 45 bytes
 abbrev pub tables_bytes : Typed → ℕ
-tables_bytes t = 45 + (18 * length t.volume + (name_bytes t.names + (38 * length t.files + (24 * length t.extents
+tables_bytes t = CHECKPOINT_HEAD + (18 * length t.volume + (name_bytes t.names + (38 * length t.files + (24 * length t.extents
     + (chunk_bytes t.chunks + (setting_bytes t.settings + 16 * length t.results))))))
 
 -- how many entries there are but for names

@@ -28,6 +28,7 @@ use Rattle.volume_tables.specs.Ends.{results_now, unstaged_in}
 use Rattle.volume_tables.specs.Waits.{Pending, due_in, wears_in}
 use Rattle.volume_tables.specs.declared.ends.JobEnds.{JobEnds}
 use Rattle.vdisk.specs.declared.disk.Disk.{Ghosts}
+use Rattle.volume_tables.specs.declared.room.TheConstants.{MOST_RECORDS}
 use Rattle.volume_tables.specs.declared.tables.Tables.{Tables}
 
 -- the entry with the least key above one, or with the least of all
@@ -162,7 +163,7 @@ module _ {D : Type 0} {d : Ghosts D} where
 
   -- records of so many bytes find room without a commit, and so many clusters are free
   pub record IsRoomFor (t : Tables D d) (records clusters : ℕ) : Type 0 where
-    pub records_fit : staged_of t + records ≤ 65472
+    pub records_fit : staged_of t + records ≤ MOST_RECORDS
     pub clusters_fit : clusters ≤ free_in (states_of t)
 
   -- What is stored and kept is so as before, or it is the tables now.

@@ -3,6 +3,8 @@ use Rattle.std.specs.Prelude.{◌+◌, ◌-◌, ◌*◌, ◌&&◌, ◌||◌, nat
 use Rattle.meta_log.specs.Log.{passes_half, epochs_for}
 use Rattle.meta_log.specs.Meta.{last_epoch}
 use Rattle.groundwork.specs.declared.limits.TheConstants.{LAST_ID}
+use Rattle.meta_log.specs.declared.limits.TheConstants.{GROUP_HEAD}
+use Rattle.volume_tables.specs.declared.room.TheConstants.{MOST_RECORDS}
 
 -- What a call asks for: whether it draws an id; the bytes by which it makes a checkpoint of the tables longer, before it
 -- drops anything; the most bytes of records that it may stage; and the clusters that it writes.
@@ -38,13 +40,13 @@ wears_in half p = p.worn || (passes_half half p.place (due_in p) && nat_eq p.epo
 
 -- what a call needs finds room without a commit
 abbrev pub finds_room : Pending → Needs → Bool
-finds_room p n = nat_le (p.staged + n.records) 65472 && nat_le n.clusters p.free
+finds_room p n = nat_le (p.staged + n.records) MOST_RECORDS && nat_le n.clusters p.free
 
 -- where the next group goes once records of so many bytes are durable: behind their group, or behind the checkpoint of
 -- so many bytes that was written where that did not fit
 abbrev pub place_after : ℕ → ℕ → ℕ → ℕ → ℕ
 place_after half checkpoint place bytes =
-    if nat_eq bytes 0 then place else (if passes_half half place bytes then checkpoint else place + (37 + bytes))
+    if nat_eq bytes 0 then place else (if passes_half half place bytes then checkpoint else place + (GROUP_HEAD + bytes))
 
 -- what waits where nothing does
 abbrev pub settled : ℕ → ℕ → ℕ → Pending

@@ -4,6 +4,7 @@ ghost use Rattle.std.specs.Prelude.{◌≡◌, ◌⊎◌, ◌≤◌, ◌<◌, �
 ghost use Rattle.vdisk.specs.Causes.{Rose};
 ghost use Rattle.vdisk.specs.Disk.{ChangedWithin};
 ghost use Rattle.vdisk.specs.Ranges.{part};
+ghost use Rattle.plain_volume.specs.declared.limits.TheConstants.{MOST_BYTES_OF_A_CALL};
 ghost use Rattle.cluster_space.specs.States.{free_in};
 ghost use Rattle.volume_inside.specs.Layout.{first_data_cluster, IsDataCluster};
 ghost use Rattle.volume_inside.specs.Lists.{IsOut};
@@ -139,12 +140,12 @@ impl<D: Disk> Tables<D> {
     fn write_run(&mut self, run: Run, bytes: &[u8]) -> Result<(), Fault>
         requires running { stopped self.old ≡ false }
         requires some { 0 < run.count }
-        requires whole { length bytes.now ≡ 4096 * run.count }
+        requires whole { length bytes.now ≡ CLUSTER_BYTES * run.count }
         requires free { AreFree self.old.clusters (states_of self.old) run }
         ensures writes { WritesData self.old self.new result }
         ensures written { (stored : Typed) → IsTables self.old stored → OnOk result
-            (part (4096 * run.first) (4096 * run.count) (disk_of self.new).image ≡ bytes.now) }
-        ensures image { ChangedWithin (4096 * run.first) (4096 * run.count) (disk_of self.old).image
+            (part (CLUSTER_BYTES * run.first) (CLUSTER_BYTES * run.count) (disk_of self.new).image ≡ bytes.now) }
+        ensures image { ChangedWithin (CLUSTER_BYTES * run.first) (CLUSTER_BYTES * run.count) (disk_of self.old).image
             (disk_of self.new).image }
     {
         fault::of_log(
@@ -158,15 +159,15 @@ impl<D: Disk> Tables<D> {
     pub fn write_free_run(&mut self, bytes: &[u8]) -> Result<Run, Fault>
         requires running { stopped self.old ≡ false }
         requires some { 0 < free_in (states_of self.old) }
-        requires whole { 4096 ≤ length bytes.now }
-        requires short { length bytes.now ≤ 1048576 }
+        requires whole { CLUSTER_BYTES ≤ length bytes.now }
+        requires short { length bytes.now ≤ MOST_BYTES_OF_A_CALL }
         ensures some { IfOk result (λ run. 0 < run.count) }
-        ensures fits { IfOk result (λ run. 4096 * run.count ≤ length bytes.now) }
+        ensures fits { IfOk result (λ run. CLUSTER_BYTES * run.count ≤ length bytes.now) }
         ensures free { IfOk result (λ run. AreFree self.old.clusters (states_of self.old) run) }
         ensures writes { WritesData self.old self.new result }
         ensures written { (stored : Typed) → IsTables self.old stored → IfOk result (λ run. (k : ℕ) → k < run.count →
-            cluster_bytes (run.first + k) (disk_of self.new).image ≡ part (4096 * k) 4096 bytes.now) }
-        ensures image { IfOk result (λ run. ChangedWithin (4096 * run.first) (4096 * run.count)
+            cluster_bytes (run.first + k) (disk_of self.new).image ≡ part (CLUSTER_BYTES * k) CLUSTER_BYTES bytes.now) }
+        ensures image { IfOk result (λ run. ChangedWithin (CLUSTER_BYTES * run.first) (CLUSTER_BYTES * run.count)
             (disk_of self.old).image (disk_of self.new).image) }
         ensures same { inside_now self.new ≡ inside_now self.old }
         ensures frame { (t : Typed) → NamesNoFree self.old.clusters (states_of self.old) t →
@@ -181,12 +182,12 @@ impl<D: Disk> Tables<D> {
     /// tables.
     pub fn write_range(&mut self, cluster: u32, from: u16, bytes: &[u8]) -> Result<(), Fault>
         requires running { stopped self.old ≡ false }
-        requires within { from + length bytes.now ≤ 4096 }
+        requires within { from + length bytes.now ≤ CLUSTER_BYTES }
         requires behind { IsBehind cluster from (tables_now self.old).chunks }
         ensures writes { WritesData self.old self.new result }
         ensures written { (stored : Typed) → IsTables self.old stored → OnOk result
-            (part (4096 * cluster + from) (length bytes.now) (disk_of self.new).image ≡ bytes.now) }
-        ensures image { ChangedWithin (4096 * cluster + from) (length bytes.now) (disk_of self.old).image
+            (part (CLUSTER_BYTES * cluster + from) (length bytes.now) (disk_of self.new).image ≡ bytes.now) }
+        ensures image { ChangedWithin (CLUSTER_BYTES * cluster + from) (length bytes.now) (disk_of self.old).image
             (disk_of self.new).image }
         ensures same { inside_now self.new ≡ inside_now self.old }
     {
@@ -200,9 +201,9 @@ impl<D: Disk> Tables<D> {
     /// `out` may hold anything.
     pub fn read_run(&mut self, first: u32, from: u16, out: &mut [u8]) -> Result<(), Fault>
         requires in_data { IsDataCluster self.old.clusters first }
-        requires in_clusters { 4096 * first + from + length out.old ≤ 4096 * self.old.clusters }
+        requires in_clusters { CLUSTER_BYTES * first + from + length out.old ≤ CLUSTER_BYTES * self.old.clusters }
         ensures bytes { (stored : Typed) → IsTables self.old stored →
-            OnOk result (out.new ≡ part (4096 * first + from) (length out.old) (disk_of self.old).image) }
+            OnOk result (out.new ≡ part (CLUSTER_BYTES * first + from) (length out.old) (disk_of self.old).image) }
         ensures reads { ReadsOnly self.old self.new }
         ensures failed { OnErr result (IsErrOf result Fault.Failed ×
             Rose (disk_of self.old).faults (disk_of self.new).faults) }

@@ -13,12 +13,14 @@ ghost use Rattle.table_rules.specs.Found.{AreRecordsOf};
 ghost use Rattle.table_rules.specs.Marks.{IsFilled};
 ghost use Rattle.volume_inside.specs.Superblock.{IsSuperblock, HasSuperblock};
 ghost use Rattle.vdisk.specs.Steps.{Keeps};
+ghost use Rattle.volume_inside.specs.declared.layout.TheConstants.{LEAST_CLUSTERS, MOST_CLUSTERS};
 ghost use Rattle.volume_tables.specs.Log.{log_epoch, log_place};
 ghost use Rattle.volume_tables.specs.Formats.{SpellsFresh, IsFormatFault, with_results};
 ghost use Rattle.volume_tables.specs.Formats.{IsBegun, IsMakeImage, SpellsNoFile};
 ghost use Rattle.volume_tables.specs.Sizes.{tables_bytes};
 ghost use Rattle.volume_tables.specs.Staging.{IsQuiet};
 ghost use Rattle.volume_inside.specs.Shows.{Kept};
+ghost use Rattle.meta_log.specs.declared.limits.TheConstants.{CHECKPOINT_HEAD, GROUP_HEAD, RECORD_HEAD, MOST_STAGED};
 ghost use Rattle.volume_tables.specs.Mounted.{IsOpened};
 ghost use Rattle.volume_tables.specs.Tables.{tables_now, area_of, disk_of, IsToldBy, IsTables};
 
@@ -31,7 +33,8 @@ use table_records::{Memory, ResultRecord, Settings, Texts};
 use table_rules::{Checked, LastResults, Records, TableFault};
 use vdisk::{Disk, Failed, write_synced};
 use volume_inside::{
-    CLUSTER_BYTES, JOURNAL_AT, MountFault, data_clusters, half_bytes, write_superblock,
+    CLUSTER_BYTES, JOURNAL_AT, LEAST_MINIMUM_SIZE, MountFault, data_clusters, half_bytes,
+    write_superblock,
 };
 
 /// The first record of a volume: version 1, and 1 is drawn next.
@@ -42,9 +45,9 @@ const NO_RESULT: [u8; 9] = [0; 9];
 
 /// The first cluster of an image of so many clusters.
 fn superblock_cluster(alloc: Global, clusters: u32) -> Result<Vec<u8>, Memory>
-    requires least { 4096 ≤ clusters }
-    requires most { clusters ≤ 1048576 }
-    ensures size { IfOk result (λ bytes. length bytes.items ≡ 4096) }
+    requires least { LEAST_CLUSTERS ≤ clusters }
+    requires most { clusters ≤ MOST_CLUSTERS }
+    ensures size { IfOk result (λ bytes. length bytes.items ≡ CLUSTER_BYTES) }
     ensures is { IfOk result (λ bytes. IsSuperblock clusters bytes.items) }
 {
     let mut bytes = Vec::new(alloc);
@@ -55,12 +58,12 @@ fn superblock_cluster(alloc: Global, clusters: u32) -> Result<Vec<u8>, Memory>
 
 /// Makes the disk as long as an image of so many clusters, and writes and syncs its superblock.
 fn prepare<D: Disk>(disk: &mut D, clusters: u32, superblock: &[u8]) -> Result<(), Failed>
-    requires fits { length (D.state disk.old).image ≤ 4096 * clusters }
+    requires fits { length (D.state disk.old).image ≤ CLUSTER_BYTES * clusters }
     requires some { 1 ≤ clusters }
-    requires cluster { length superblock.now ≡ 4096 }
+    requires cluster { length superblock.now ≡ CLUSTER_BYTES }
     requires is { IsSuperblock clusters superblock.now }
     ensures written { IsTrue (D.state disk.old).tells → OnOk result (HasSuperblock clusters (D.state disk.new).image) }
-    ensures size { OnOk result (length (D.state disk.new).image ≡ 4096 * clusters) }
+    ensures size { OnOk result (length (D.state disk.new).image ≡ CLUSTER_BYTES * clusters) }
     ensures tells { (D.state disk.new).tells ≡ (D.state disk.old).tells }
     ensures moments { Keeps (D.state disk.old) (D.state disk.new) (IsBegun clusters (D.state disk.old)) }
     ensures same { D.is_same disk.old disk.new }
@@ -77,7 +80,7 @@ fn first_settings(alloc: Global) -> Settings
     Settings {
         enabled: false,
         verify: false,
-        minimum_size: 32_768,
+        minimum_size: LEAST_MINIMUM_SIZE,
         age_days: 3,
         threshold: 100,
         folders: Texts::new(alloc),
@@ -87,12 +90,13 @@ fn first_settings(alloc: Global) -> Settings
 
 /// Stages a pair for which there is room.
 fn stage_pair<D: Disk>(log: &mut MetaLog<D>, key: &[u8], value: &[u8]) -> Result<(), MetaFault>
-    requires group { staged_of log.old + (5 + (length key.now + length value.now)) ≤ 65536 }
-    requires half { checkpoint_length (now_of log.old) + (5 + (length key.now + length value.now)) ≤ log.old.half }
+    requires group { staged_of log.old + (RECORD_HEAD + (length key.now + length value.now)) ≤ MOST_STAGED }
+    requires half { checkpoint_length (now_of log.old) + (RECORD_HEAD + (length key.now + length value.now))
+        ≤ log.old.half }
     ensures now { OnOk result (now_of log.new ≡ put bytes_cmp key.now value.now (now_of log.old)) }
-    ensures staged { OnOk result (staged_of log.new ≡ staged_of log.old + (5 + (length key.now + length value.now))) }
+    ensures staged { OnOk result (staged_of log.new ≡ staged_of log.old + (RECORD_HEAD + (length key.now + length value.now))) }
     ensures checkpoint { OnOk result (checkpoint_length (now_of log.new)
-        ≤ checkpoint_length (now_of log.old) + (5 + (length key.now + length value.now))) }
+        ≤ checkpoint_length (now_of log.old) + (RECORD_HEAD + (length key.now + length value.now))) }
     ensures quiet { IsQuiet log.old log.new }
     ensures refused { OnErr result (IsErrOf result MetaFault.Memory) }
 {
@@ -101,7 +105,7 @@ fn stage_pair<D: Disk>(log: &mut MetaLog<D>, key: &[u8], value: &[u8]) -> Result
 
 /// Stages the results of all kinds.
 fn stage_results<D: Disk>(log: &mut MetaLog<D>) -> Result<(), MetaFault>
-    requires group { staged_of log.old + 64 ≤ 65536 }
+    requires group { staged_of log.old + 64 ≤ MOST_STAGED }
     requires half { checkpoint_length (now_of log.old) + 64 ≤ log.old.half }
     ensures now { OnOk result (now_of log.new ≡ with_results (now_of log.old)) }
     ensures staged { OnOk result (staged_of log.new ≡ staged_of log.old + 64) }
@@ -138,7 +142,7 @@ fn commit_first<D: Disk>(
     requires empty { now_of log ≡ [] }
     requires settings { settings.now ≡ settings_bytes fresh_settings }
     requires running { log.stopped ≡ false }
-    requires begun { log_place log ≡ 45 }
+    requires begun { log_place log ≡ CHECKPOINT_HEAD }
     requires none { staged_of log ≡ 0 }
     requires wide { 65618 ≤ log.half }
     ensures now { IfOk result (λ new. now_of new ≡ fresh_map) }
@@ -156,7 +160,7 @@ fn commit_first<D: Disk>(
     ensures staged { IfOk result (λ new. staged_of new ≡ 0) }
     // A group fits behind an empty checkpoint, whatever it holds.
     ensures first { IfOk result (λ new. log_epoch new ≡ log_epoch log) }
-    ensures next { IfOk result (λ new. log_place new ≡ 45 + (37 + 106)) }
+    ensures next { IfOk result (λ new. log_place new ≡ CHECKPOINT_HEAD + (GROUP_HEAD + 106)) }
     ensures runs { IfOk result (λ new. new.stopped ≡ false) }
     ensures refused { IfErr result (λ e. ((e.1 ≡ MountFault.Failed) × Rose (state_of log).faults (D.state e.0).faults)
         ⊎ (e.1 ≡ MountFault.Memory)) }
@@ -177,7 +181,7 @@ fn commit_first<D: Disk>(
 
 /// What stands in the tables of a fresh volume of so many clusters.
 fn first_found(alloc: Global, clusters: u32) -> Result<Checked, cluster_space::Memory>
-    requires { 4096 ≤ clusters }
+    requires { LEAST_CLUSTERS ≤ clusters }
     ensures records { IfOk result (λ found. AreRecordsOf fresh_tables found.records) }
     ensures space { IfOk result (λ found. IsFilled clusters [] found.space) }
 {
@@ -206,20 +210,20 @@ fn make_log<D: Disk>(
     clusters: u32,
     superblock: &[u8],
 ) -> Result<MetaLog<D>, (D, MountFault)>
-    requires least { 4096 ≤ clusters }
-    requires most { clusters ≤ 1048576 }
-    requires fits { length (D.state disk).image ≤ 4096 * clusters }
-    requires cluster { length superblock.now ≡ 4096 }
+    requires least { LEAST_CLUSTERS ≤ clusters }
+    requires most { clusters ≤ MOST_CLUSTERS }
+    requires fits { length (D.state disk).image ≤ CLUSTER_BYTES * clusters }
+    requires cluster { length superblock.now ≡ CLUSTER_BYTES }
     requires is { IsSuperblock clusters superblock.now }
     ensures log { IsTrue (D.state disk).tells → IfOk result (λ log. IsLog log []) }
     ensures superblock { IsTrue (D.state disk).tells → IfOk result
         (λ log. HasSuperblock clusters (state_of log).image) }
-    ensures size { IfOk result (λ log. length (state_of log).image ≡ 4096 * clusters) }
+    ensures size { IfOk result (λ log. length (state_of log).image ≡ CLUSTER_BYTES * clusters) }
     ensures empty { IfOk result (λ log. now_of log ≡ []) }
     ensures at { IfOk result (λ log. log.at ≡ journal_at) }
     ensures half { IfOk result (λ log. log.half ≡ half_of clusters) }
     ensures epoch { IfOk result (λ log. log_epoch log ≡ 1) }
-    ensures next { IfOk result (λ log. log_place log ≡ 45) }
+    ensures next { IfOk result (λ log. log_place log ≡ CHECKPOINT_HEAD) }
     ensures staged { IfOk result (λ log. staged_of log ≡ 0) }
     ensures runs { IfOk result (λ log. log.stopped ≡ false) }
     ensures refused { IfErr result (λ e. ((e.1 ≡ MountFault.Failed) × Rose (D.state disk).faults (D.state e.0).faults)
@@ -251,9 +255,9 @@ struct Parts {
 }
 
 fn first_parts(alloc: Global, clusters: u32) -> Result<Parts, TableFault>
-    requires least { 4096 ≤ clusters }
-    requires most { clusters ≤ 1048576 }
-    ensures size { IfOk result (λ parts. length parts.superblock.items ≡ 4096) }
+    requires least { LEAST_CLUSTERS ≤ clusters }
+    requires most { clusters ≤ MOST_CLUSTERS }
+    ensures size { IfOk result (λ parts. length parts.superblock.items ≡ CLUSTER_BYTES) }
     ensures is { IfOk result (λ parts. IsSuperblock clusters parts.superblock.items) }
     ensures settings { IfOk result (λ parts. parts.settings.items ≡ settings_bytes fresh_settings) }
     ensures records { IfOk result (λ parts. AreRecordsOf fresh_tables parts.found.records) }
@@ -271,16 +275,16 @@ fn first_parts(alloc: Global, clusters: u32) -> Result<Parts, TableFault>
 
 /// Makes a fresh volume on a disk that is not too long.
 fn make<D: Disk>(alloc: Global, disk: D, clusters: u32) -> Result<Tables<D>, (D, MountFault)>
-    requires least { 4096 ≤ clusters }
-    requires most { clusters ≤ 1048576 }
-    requires fits { length (D.state disk).image ≤ 4096 * clusters }
+    requires least { LEAST_CLUSTERS ≤ clusters }
+    requires most { clusters ≤ MOST_CLUSTERS }
+    requires fits { length (D.state disk).image ≤ CLUSTER_BYTES * clusters }
     ensures tables { IsTrue (D.state disk).tells → IfOk result (λ tables. IsTables tables fresh_tables) }
     ensures kept { IsTrue (D.state disk).tells → IfOk result (λ tables. Kept (area_of tables) (disk_of tables) []) }
     ensures opened { IfOk result IsOpened }
     ensures now { IfOk result (λ tables. tables_now tables ≡ fresh_tables) }
     ensures clusters { IfOk result (λ tables. tables.clusters ≡ clusters) }
     ensures first { IfOk result (λ tables. log_epoch tables.log ≡ 1) }
-    ensures next { IfOk result (λ tables. log_place tables.log ≡ tables_bytes fresh_tables + 37) }
+    ensures next { IfOk result (λ tables. log_place tables.log ≡ tables_bytes fresh_tables + GROUP_HEAD) }
     ensures goes_on { IsTrue (D.state disk).tells → IfOk result (λ tables. IsToldBy tables (disk_of tables).image) }
     ensures moments { IsTrue (D.state disk).tells →
         IfOk result (λ tables. Keeps (D.state disk) (disk_of tables) (IsMakeImage clusters (D.state disk))) }
@@ -312,8 +316,8 @@ impl<D: Disk> Tables<D> {
     /// one that is not mounted, from when the gates of the journal are closed; before that an older state of a volume
     /// that stood on the disk may show.
     pub fn format(alloc: Global, disk: D, clusters: u32) -> Result<Tables<D>, (D, MountFault)>
-        requires least { 4096 ≤ clusters }
-        requires most { clusters ≤ 1048576 }
+        requires least { LEAST_CLUSTERS ≤ clusters }
+        requires most { clusters ≤ MOST_CLUSTERS }
         ensures tables { IsTrue (D.state disk).tells → IfOk result (λ tables. IsTables tables fresh_tables) }
         ensures kept { IsTrue (D.state disk).tells → IfOk result (λ tables. Kept (area_of tables) (disk_of tables) []) }
         ensures opened { IfOk result IsOpened }
@@ -321,15 +325,15 @@ impl<D: Disk> Tables<D> {
         ensures clusters { IfOk result (λ tables. tables.clusters ≡ clusters) }
         ensures first { IfOk result (λ tables. log_epoch tables.log ≡ 1) }
         // The first records stand as one group behind an empty checkpoint.
-        ensures next { IfOk result (λ tables. log_place tables.log ≡ tables_bytes fresh_tables + 37) }
+        ensures next { IfOk result (λ tables. log_place tables.log ≡ tables_bytes fresh_tables + GROUP_HEAD) }
         ensures goes_on { IsTrue (D.state disk).tells → IfOk result (λ tables. IsToldBy tables (disk_of tables).image) }
         ensures moments { IsTrue (D.state disk).tells →
             IfOk result (λ tables. Keeps (D.state disk) (disk_of tables) (IsMakeImage clusters (D.state disk))) }
         ensures moments_err { IsTrue (D.state disk).tells →
             IfErr result (λ e. Keeps (D.state disk) (D.state e.0) (IsMakeImage clusters (D.state disk))) }
         ensures later { IfOk result (λ tables. (D.state disk).faults ≤ (disk_of tables).faults) }
-        ensures longer { 4096 * clusters < length (D.state disk).image → IfErr result (λ e. e.0 ≡ disk) }
-        ensures fits { OnOk result (length (D.state disk).image ≤ 4096 * clusters) }
+        ensures longer { CLUSTER_BYTES * clusters < length (D.state disk).image → IfErr result (λ e. e.0 ≡ disk) }
+        ensures fits { OnOk result (length (D.state disk).image ≤ CLUSTER_BYTES * clusters) }
         ensures refused { IfErr result (λ e. IsFormatFault clusters (D.state disk) (D.state e.0) e.1) }
         ensures same { IfOk result (λ tables. D.is_same disk tables.log.disk) }
         ensures same_err { IfErr result (λ e. D.is_same disk e.0) }

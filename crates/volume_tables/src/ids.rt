@@ -34,7 +34,7 @@ impl<D: Disk> Tables<D> {
             with_volume (record { version = 1; next_id = next_id_of (tables_now self.old) + 1 })
             (tables_now self.old)) }
         ensures err { OnErr result (tables_now self.new ≡ tables_now self.old) }
-        ensures worn { IsErrOf result Fault.Worn ↔ next_id_of (tables_now self.old) ≡ 2 ^ 48 - 1 }
+        ensures worn { IsErrOf result Fault.Worn ↔ next_id_of (tables_now self.old) ≡ LAST_ID }
         ensures refused { OnErr result (IsErrOf result Fault.Worn) }
         ensures staged { OnOk result (staged_of self.new ≡ staged_of self.old + 18) }
         ensures none_staged { OnErr result (staged_of self.new ≡ staged_of self.old) }
@@ -55,7 +55,7 @@ impl<D: Disk> Tables<D> {
     /// Puts the volume's record in its place.
     fn put_next_id(&mut self, next_id: u64)
         requires room { staged_of self.old + 18 ≤ MOST_RECORDS }
-        requires last { next_id ≤ 2 ^ 48 - 1 }
+        requires last { next_id ≤ LAST_ID }
         ensures now { tables_now self.new ≡
             with_volume (record { version = 1; next_id = next_id }) (tables_now self.old) }
         ensures staged { staged_of self.new ≡ staged_of self.old + 18 }

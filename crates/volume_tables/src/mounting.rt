@@ -3,6 +3,7 @@
 ghost use Rattle.std.specs.Prelude.{◌≡◌, ◌≤◌, ◌*◌, T, false, length, IsTrue, Ok, IfOk, IfErr};
 ghost use Rattle.std.specs.FinMap.Entries.{is_sorted};
 ghost use Rattle.byte_map.specs.Words.{bytes_cmp};
+ghost use Rattle.volume_inside.specs.declared.layout.TheConstants.{CLUSTER_BYTES, LEAST_CLUSTERS, MOST_CLUSTERS};
 ghost use Rattle.meta_log.specs.Log.{IsLog, now_of, staged_of, state_of};
 ghost use Rattle.meta_log.specs.Opened.{IsOnlyRead, IsOpenFault};
 ghost use Rattle.meta_log.specs.Ready.{GoesOnFrom};
@@ -47,9 +48,9 @@ pub(crate) fn mount_fault(fault: MetaFault) -> MountFault
 
 /// Opens the journal of an image of so many clusters.
 fn open_log<D: Disk>(alloc: Global, disk: D, clusters: u32) -> Result<MetaLog<D>, (D, MountFault)>
-    requires least { 4096 ≤ clusters }
-    requires most { clusters ≤ 1048576 }
-    requires size { length (D.state disk).image ≡ 4096 * clusters }
+    requires least { LEAST_CLUSTERS ≤ clusters }
+    requires most { clusters ≤ MOST_CLUSTERS }
+    requires size { length (D.state disk).image ≡ CLUSTER_BYTES * clusters }
     ensures opened { IsTrue (D.state disk).tells → IfOk result (λ log. IsLog log (now_of log)) }
     ensures spells { IsTrue (D.state disk).tells →
         IfOk result (λ log. read_meta clusters (D.state disk).image ≡ Ok (now_of log)) }
@@ -73,11 +74,11 @@ fn open_log<D: Disk>(alloc: Global, disk: D, clusters: u32) -> Result<MetaLog<D>
 
 /// The tables over a journal that was just opened or made, with what was found in it.
 pub(crate) fn assemble<D: Disk>(log: MetaLog<D>, clusters: u32, found: Checked) -> Tables<D>
-    requires least { 4096 ≤ clusters }
-    requires most { clusters ≤ 1048576 }
+    requires least { LEAST_CLUSTERS ≤ clusters }
+    requires most { clusters ≤ MOST_CLUSTERS }
     requires at { log.at ≡ journal_at }
     requires half { log.half ≡ half_of clusters }
-    requires size { length (state_of log).image ≡ 4096 * clusters }
+    requires size { length (state_of log).image ≡ CLUSTER_BYTES * clusters }
     requires staged { staged_of log ≡ 0 }
     requires running { log.stopped ≡ false }
     requires volume { IsVolume clusters (log_now log) }
@@ -114,9 +115,9 @@ pub(crate) fn assemble<D: Disk>(log: MetaLog<D>, clusters: u32, found: Checked) 
 
 /// Opens the journal of an image of so many clusters, and checks its tables.
 fn open_tables<D: Disk>(alloc: Global, disk: D, clusters: u32) -> Result<Tables<D>, (D, MountFault)>
-    requires least { 4096 ≤ clusters }
-    requires most { clusters ≤ 1048576 }
-    requires size { length (D.state disk).image ≡ 4096 * clusters }
+    requires least { LEAST_CLUSTERS ≤ clusters }
+    requires most { clusters ≤ MOST_CLUSTERS }
+    requires size { length (D.state disk).image ≡ CLUSTER_BYTES * clusters }
     ensures spells { IsTrue (D.state disk).tells → IfOk result (IsMountedFrom clusters (D.state disk)) }
     ensures opened { IfOk result IsOpened }
     ensures clusters { IfOk result (λ tables. tables.clusters ≡ clusters) }

@@ -21,7 +21,7 @@ impl<D: Disk> Tables<D> {
     pub fn half_bytes(&self) -> u64
         ensures { result ≡ half_bytes self.now.clusters }
     {
-        4096 * (self.clusters as u64 / 32)
+        volume_inside::half_bytes(self.clusters)
     }
 
     /// How many data clusters there are.

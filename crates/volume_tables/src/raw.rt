@@ -5,6 +5,7 @@ ghost use Rattle.std.specs.FinMap.Entries.{find};
 ghost use Rattle.byte_map.specs.Words.{first_of, next_in};
 ghost use Rattle.table_records.specs.Codecs.{typed, IsKeyed};
 ghost use Rattle.table_records.specs.Changes.{EndsRange};
+ghost use Rattle.meta_log.specs.declared.limits.TheConstants.{MOST_STAGED, RECORD_HEAD};
 ghost use Rattle.volume_tables.specs.Log.{log_now, log_staged};
 ghost use Rattle.volume_tables.specs.Contents.{SortedAnd};
 ghost use Rattle.volume_tables.specs.Dropped.{in_range};
@@ -79,7 +80,7 @@ pub(crate) fn put<D: Disk, T: Table>(
     value: T::Value,
 ) -> Result<(), Fault>
     requires { (b w : List ℕ) → T.codec.read_key b ≡ Some key → IsTrue (T.codec.is_value w) →
-        log_staged log.old + (5 + (length b + length w)) ≤ 65536 }
+        log_staged log.old + (RECORD_HEAD + (length b + length w)) ≤ MOST_STAGED }
     ensures { IsStagedPut T.codec key value log.old log.new result }
 {
     let mut spelled = [0u8; MOST_KEY_BYTES];
@@ -93,7 +94,7 @@ pub(crate) fn put<D: Disk, T: Table>(
 /// for the record was ensured.
 pub(crate) fn drop_range<D: Disk, T: Table>(log: &mut MetaLog<D>, from: T::Key, to: Option<T::Key>)
     requires { (b w : List ℕ) → T.codec.read_key b ≡ Some from → EndsRange T.codec to w →
-        log_staged log.old + (5 + (length b + length w)) ≤ 65536 }
+        log_staged log.old + (RECORD_HEAD + (length b + length w)) ≤ MOST_STAGED }
     ensures { IsStagedDrop T.codec from to log.old log.new }
 {
     let mut low = [0u8; MOST_KEY_BYTES];

@@ -6,6 +6,7 @@ ghost use Rattle.std.specs.FinMap.Entries.{find};
 ghost use Rattle.byte_map.specs.Words.{first_of, next_in, bytes_cmp};
 ghost use Rattle.table_records.specs.Codecs.{typed, IsKeyed};
 ghost use Rattle.table_records.specs.Tables.{name_codec};
+ghost use Rattle.meta_log.specs.declared.limits.TheConstants.{MOST_STAGED};
 ghost use Rattle.volume_tables.specs.Log.{log_now, log_staged};
 ghost use Rattle.volume_tables.specs.Contents.{SortedAnd};
 ghost use Rattle.volume_tables.specs.Staging.{IsStagedPut, IsStagedDrop};
@@ -61,7 +62,7 @@ pub(crate) fn first_name<D: Disk>(log: &MetaLog<D>) -> Option<(&[u8], u64)>
 /// Stages a name and its file. Room for the record was ensured.
 pub(crate) fn put_name<D: Disk>(log: &mut MetaLog<D>, name: &[u8], id: u64) -> Result<(), Fault>
     requires short { length name.now ≤ 255 }
-    requires room { log_staged log.old + (14 + length name.now) ≤ 65536 }
+    requires room { log_staged log.old + (14 + length name.now) ≤ MOST_STAGED }
     ensures { IsStagedPut name_codec name.now id log.old log.new result }
 {
     let mut spelled = [0u8; MOST_NAME_KEY_BYTES];
@@ -75,7 +76,7 @@ pub(crate) fn put_name<D: Disk>(log: &mut MetaLog<D>, name: &[u8], id: u64) -> R
 pub(crate) fn drop_names<D: Disk>(log: &mut MetaLog<D>, from: &[u8], to: &[u8])
     requires short { length from.now ≤ 255 }
     requires short_end { length to.now ≤ 255 }
-    requires room { log_staged log.old + (7 + (length from.now + length to.now)) ≤ 65536 }
+    requires room { log_staged log.old + (7 + (length from.now + length to.now)) ≤ MOST_STAGED }
     ensures { IsStagedDrop name_codec from.now (Some to.now) log.old log.new }
 {
     let mut low = [0u8; MOST_NAME_KEY_BYTES];
@@ -89,7 +90,7 @@ pub(crate) fn drop_names<D: Disk>(log: &mut MetaLog<D>, from: &[u8], to: &[u8])
 /// Stages that all names from one on are dropped. Room for the record was ensured.
 pub(crate) fn drop_names_from<D: Disk>(log: &mut MetaLog<D>, from: &[u8])
     requires short { length from.now ≤ 255 }
-    requires room { log_staged log.old + (7 + length from.now) ≤ 65536 }
+    requires room { log_staged log.old + (7 + length from.now) ≤ MOST_STAGED }
     ensures { IsStagedDrop name_codec from.now None log.old log.new }
 {
     let mut low = [0u8; MOST_NAME_KEY_BYTES];
@@ -102,7 +103,7 @@ pub(crate) fn drop_names_from<D: Disk>(log: &mut MetaLog<D>, from: &[u8])
 pub(crate) fn drop_name_range<D: Disk>(log: &mut MetaLog<D>, from: &[u8], to: Option<&[u8]>)
     requires short { length from.now ≤ 255 }
     requires short_end { IfSome to (λ name. length name.now ≤ 255) }
-    requires room { log_staged log.old + (262 + length from.now) ≤ 65536 }
+    requires room { log_staged log.old + (262 + length from.now) ≤ MOST_STAGED }
     ensures { IsStagedDrop name_codec from.now (option_map (λ name. name.now) to.entry) log.old log.new }
 {
     match to {

@@ -3,6 +3,7 @@
 ghost use Rattle.std.specs.Prelude.{◌≡◌, ◌≤◌, ◌<◌, ◌+◌, ◌^◌};
 ghost use Rattle.table_records.specs.Settings.{settings_bytes, AreSpellable};
 ghost use Rattle.table_records.specs.Tables.{settings_codec};
+ghost use Rattle.meta_log.specs.declared.limits.TheConstants.{MOST_STAGED};
 ghost use Rattle.volume_tables.specs.Log.{log_staged};
 ghost use Rattle.volume_tables.specs.Sizes.{settings_size};
 ghost use Rattle.volume_tables.specs.Staging.{IsStagedPut};
@@ -42,7 +43,7 @@ pub(crate) fn put_settings<D: Disk>(
 ) -> Result<(), Fault>
     requires spellable { AreSpellable settings.now }
     requires spelled { bytes.now ≡ settings_bytes settings.now }
-    requires room { log_staged log.old + (6 + settings_size settings.now) ≤ 65536 }
+    requires room { log_staged log.old + (6 + settings_size settings.now) ≤ MOST_STAGED }
     ensures { IsStagedPut settings_codec tt settings.now log.old log.new result }
 {
     fault::of_log(log.stage_put(&SETTINGS_KEY, bytes))

@@ -10,6 +10,7 @@ ghost use Rattle.table_records.specs.Tables.{result_codec};
 ghost use Rattle.table_rules.specs.Found.{result_of};
 ghost use Rattle.volume_inside.specs.Changes.{with_result};
 ghost use Rattle.volume_inside.specs.Typed.{typed_of};
+ghost use Rattle.meta_log.specs.declared.limits.TheConstants.{MOST_STAGED};
 ghost use Rattle.volume_tables.specs.Contents.{HasEnds};
 ghost use Rattle.volume_tables.specs.Ends.{with_staged, all_staged, unstaged, unstaged_in};
 ghost use Rattle.volume_tables.specs.Log.{log_now, log_staged};
@@ -30,7 +31,7 @@ fn put_end<D: Disk>(log: &mut MetaLog<D>, kind: JobKind, end: ResultRecord)
     requires sorted { is_sorted bytes_cmp (log_now log.old) ≡ true }
     requires spelled { are_well_formed (log_now log.old) ≡ true }
     requires there { IsSome (find kind_cmp kind (typed result_codec (log_now log.old))) }
-    requires room { log_staged log.old + 16 ≤ 65536 }
+    requires room { log_staged log.old + 16 ≤ MOST_STAGED }
     ensures sorted { is_sorted bytes_cmp (log_now log.new) ≡ true }
     ensures spelled { are_well_formed (log_now log.new) ≡ true }
     ensures tables { typed_of (log_now log.new) ≡ with_result kind end (typed_of (log_now log.old)) }
@@ -44,7 +45,7 @@ fn put_end<D: Disk>(log: &mut MetaLog<D>, kind: JobKind, end: ResultRecord)
 /// Stages how the last job of a kind ended, where that is not staged.
 fn stage_end<D: Disk>(log: &mut MetaLog<D>, ends: &mut JobEnds, kind: JobKind)
     requires there { HasEnds (log_now log.old) ends.old }
-    requires room { log_staged log.old + 16 ≤ 65536 }
+    requires room { log_staged log.old + 16 ≤ MOST_STAGED }
     ensures there { HasEnds (log_now log.new) (with_staged kind ends.old) }
     ensures ends { ends.new ≡ with_staged kind ends.old }
     ensures tables { typed_of (log_now log.new)
