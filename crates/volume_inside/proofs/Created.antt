@@ -23,7 +23,7 @@ use Rattle.volume_inside.specs.Changes.{created}
 use Rattle.volume_inside.specs.Entries.{Each, each_put, each_found, each_weaker}
 use Rattle.table_records.specs.declared.chunk_records.Container.{Container}
 use Rattle.volume_inside.specs.ChunkTables.{ChunkTables}
-use Rattle.volume_inside.specs.ChunkRules.{RowHolds, ContainerRecordHolds, ContainerHolds, ChunksHold}
+use Rattle.volume_inside.specs.ChunkRules.{HasNoBase, MapRowHolds, RowHolds, ContainerRecordHolds, ContainerHolds, ChunksHold}
 use Rattle.volume_inside.specs.Rules.{IsVolumeRecord, id_after, NameHolds, IsNamedOnce, FileHolds, FilesHold, LiesIn, ExtentHolds, ExtentsHold, RulesHold}
 use Rattle.volume_inside.proofs.Lawfuls.{there_after, lies_after}
 
@@ -176,9 +176,14 @@ module _ (n : ℕ) (t : Typed) (rules : RulesHold n t) (v : VolumeRecord) (there
     files_after : FilesHold (v.next_id + 1) (created v name file t).files
     files_after =
         each_put nat_cmp nat_cmp-IsAntisymmetric (FileHolds (v.next_id + 1)) v.next_id file t.files
-        (record { some_id = one_volume; drawn = omega arith; short = short; no_map = no_map; no_cover = no_cover })
+        (record {
+          some_id = one_volume;
+          drawn = omega arith;
+          short = short;
+          cover = record { within = omega (arith, no_cover); no_map = λ is. no_map; no_cover = λ is. no_cover };
+        })
         (each_weaker (FileHolds v.next_id) (FileHolds (v.next_id + 1)) t.files
-        (λ x f h. record { some_id = h.some_id; drawn = omega (arith, h.drawn); short = h.short; no_map = h.no_map; no_cover = h.no_cover })
+        (λ x f h. record { some_id = h.some_id; drawn = omega (arith, h.drawn); short = h.short; cover = h.cover })
         files_before)
 
     chunks_after : ChunksHold n (v.next_id + 1) t.chunks
@@ -208,6 +213,9 @@ module _ (n : ℕ) (t : Typed) (rules : RulesHold n t) (v : VolumeRecord) (there
             omega (arith, long, few);
       };
       files = subst (λ (next : ℕ). FilesHold next (created v name file t).files) (sym (ap id_after volume_after)) files_after;
+      map_rows = each_put nat_cmp nat_cmp-IsAntisymmetric (MapRowHolds t.chunks.rows) v.next_id file t.files
+          (λ some. absurd (some no_map)) rules.map_rows;
+      bare = each_put nat_cmp nat_cmp-IsAntisymmetric HasNoBase v.next_id file t.files no_cover rules.bare;
       extents = extents_hold;
       chunks = subst (λ (next : ℕ). ChunksHold n next t.chunks) (sym (ap id_after volume_after)) chunks_after;
       clusters = rules.clusters;

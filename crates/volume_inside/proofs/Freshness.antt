@@ -44,6 +44,8 @@ fresh_rules n = record {
   records = fresh_records;
   names = record { names = tt; once = tt; few = omega arith };
   files = tt;
+  map_rows = tt;
+  bare = tt;
   extents = tt;
   chunks = record {
     rows = tt;

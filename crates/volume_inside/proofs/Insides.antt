@@ -54,7 +54,7 @@ pub volume_unbroken : (n : ℕ) (m : Map) (k : ℕ) → IsVolume n m → IsLeast
 volume_unbroken n m k v =
     unbroken k 1 _ _ (v.spelled, v.rules.records)
     (unbroken k 2 _ _ v.rules.names
-    (unbroken k 3 _ _ v.rules.files
+    (unbroken k 3 _ _ (v.rules.files, v.rules.bare)
     (unbroken k 5 _ _ v.rules.extents
     (unbroken k 6 _ _ v.rules.chunks.rows
     (unbroken k 7 _ _ v.rules.chunks.redirects

@@ -1,5 +1,5 @@
 -- How the space goes on where the clusters that tables name change, by whichever table.
-use Rattle.std.specs.Prelude.{◌≡◌, ◌≢◌, ◌+◌, ℕ, Bool, true, false, not, T, List, Option, Some, refl}
+use Rattle.std.specs.Prelude.{◌≡◌, ◌≢◌, ◌+◌, ℕ, Bool, true, false, not, T, List, Option, refl}
 use Rattle.std.proofs.Common.{sym, ◌∙◌, ap, subst, arith}
 use Rattle.std.specs.Prelude.{slice_index_or}
 use Rattle.std.specs.FinMap.{is_sorted}
@@ -13,7 +13,7 @@ use Rattle.volume_inside.specs.Lists.{IsOut, IsOnce}
 use Rattle.volume_inside.specs.Named.{clusters_of}
 use Rattle.volume_inside.specs.Space.{IsSpaced}
 use Rattle.volume_inside.specs.Typed.{Typed}
-use Rattle.volume_inside.proofs.Naming.{IsPutIn, IsParted, put_out, put_once, put_same, parted_out, parted_once}
+use Rattle.volume_inside.proofs.Naming.{IsPutIn, IsParted, put_out, put_once, parted_out, parted_once}
 use Rattle.volume_inside.proofs.Naming.{page_put_in, pages_parted}
 
 free_is_not_used : Free ≢ Used

@@ -17,7 +17,8 @@ use Rattle.volume_inside.specs.Bases.{uncovered_cell}
 use Rattle.volume_inside.specs.Inside.{Inside, inside_at}
 use Rattle.volume_inside.specs.View.{cell, cell_in, cells, cells_or_none, file_cells, named_cells, view}
 use Rattle.volume_inside.specs.Entries.{Each, each_found}
-use Rattle.volume_inside.specs.Rules.{next_id_of, RulesHold, NameHolds, FileHolds, FilesHold}
+use Rattle.volume_inside.specs.ChunkRules.{HasNoBase}
+use Rattle.volume_inside.specs.Rules.{next_id_of, RulesHold, NameHolds, FileHolds, FilesHold, AreBare}
 use Rattle.volume_inside.specs.Laws.{IsWhole}
 use Rattle.volume_inside.proofs.Cells.{length-cells}
 
@@ -140,11 +141,18 @@ cell_is_byte i id file p none =
     by None = refl
     by (Some block) = refl
 
+-- a file without a base has no lost cell
+file_whole : (i : Inside) (id : ℕ) (file : FileRecord) → file.covers ≡ 0 → IsWhole (cells i id file)
+file_whole i id file none test k = none_lost (cell i id file) 0 file.length k test (λ p. cell_is_byte i id file p none)
+
 -- where no file has a base, no cell is lost
-pub view_whole : (n : ℕ) (t : Typed) (image : List ℕ) → RulesHold n t → All (λ file. IsWhole file.1) (view (inside_at t image))
+pub view_whole : (t : Typed) (image : List ℕ) → AreBare t.files → All (λ file. IsWhole file.1) (view (inside_at t image))
 unfolding view
-view_whole n t image rules =
+view_whole t image bare =
     let i = inside_at t image in
-    All-named i (λ file. IsWhole file.1) t.names (each_of_ids i IsWhole t.names
-    (of_file t image IsWhole (λ test k. refl)
-    (λ id file holds test k. none_lost (cell i id file) 0 file.length k test (λ p. cell_is_byte i id file p holds.no_cover)) rules.files))
+    All-named i (λ file. IsWhole file.1) t.names (each_of_ids i IsWhole t.names (λ id. by id (find nat_cmp id t.files) refl))
+  where
+    by : (id : ℕ) (o : Option FileRecord) → find nat_cmp id t.files ≡ o → IsWhole (cells_or_none (inside_at t image) id o)
+    by id None is = λ test k. refl
+    by id (Some file) is =
+        file_whole (inside_at t image) id file (each_found nat_cmp nat_cmp-IsAntisymmetric HasNoBase id file t.files is bare)

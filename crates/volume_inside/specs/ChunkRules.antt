@@ -26,6 +26,10 @@ pub record CoverHolds (file : FileRecord) : Type 0 where
   pub no_map : file.covers ≡ 0 → file.map_row ≡ 0
   pub no_cover : file.map_row ≡ 0 → file.covers ≡ 0
 
+-- no byte is covered, so that there is no map
+abbrev pub HasNoBase : ℕ → FileRecord → Type 0
+HasNoBase id file = file.covers ≡ 0
+
 abbrev pub IsMapRow : Row → Type 0
 IsMapRow row = row.kind ≡ MAP_ROW
 

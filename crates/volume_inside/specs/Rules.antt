@@ -15,6 +15,7 @@ use Rattle.table_records.specs.declared.records.VolumeRecord.{VolumeRecord}
 use Rattle.table_records.specs.declared.records.FileRecord.{FileRecord}
 use Rattle.table_records.specs.declared.records.Extent.{Extent}
 use Rattle.table_records.specs.declared.records.ResultRecord.{ResultRecord}
+use Rattle.table_records.specs.declared.chunk_records.Row.{Row}
 use Rattle.table_records.specs.declared.settings.Settings.{Settings}
 use Rattle.volume_inside.specs.declared.rules.TheConstants.{LEAST_MINIMUM_SIZE, LEAST_THRESHOLD, MOST_AGE_DAYS}
 use Rattle.volume_inside.specs.declared.layout.TheConstants.{CLUSTER_BYTES}
@@ -23,7 +24,8 @@ use Rattle.volume_inside.specs.Layout.{IsDataCluster}
 use Rattle.volume_inside.specs.Entries.{Each}
 pub use Rattle.volume_inside.specs.Lists.{IsOut, IsOnce}
 use Rattle.volume_inside.specs.Named.{clusters_of}
-use Rattle.volume_inside.specs.ChunkRules.{ChunksHold, RowsHold, RedirectsHold, PlacesHold, ContainersHold}
+use Rattle.volume_inside.specs.ChunkRules.{CoverHolds, HasNoBase, MapRowHolds, ChunksHold, RowsHold, RedirectsHold}
+use Rattle.volume_inside.specs.ChunkRules.{PlacesHold, ContainersHold}
 
 -- ---- the records that are always there
 
@@ -83,16 +85,23 @@ pub record NamesHold (all : List (List ℕ × ℕ)) (files : List (ℕ × FileRe
 
 -- ---- files
 
--- an id that was drawn, where this one is next, a length that a file may have, and no base
+-- an id that was drawn, where this one is next, a length that a file may have, and a map just where bytes are covered
 pub record FileHolds (next : ℕ) (id : ℕ) (file : FileRecord) : Type 0 where
   pub some_id : 1 ≤ id
   pub drawn : id < next
   pub short : file.length ≤ MOST_BYTES_OF_A_FILE
-  pub no_map : file.map_row ≡ 0
-  pub no_cover : file.covers ≡ 0
+  pub cover : CoverHolds file
 
 abbrev pub FilesHold : ℕ → List (ℕ × FileRecord) → Type 0
 FilesHold next files = Each (FileHolds next) files
+
+-- the map row of each file that has one is a row of a map
+abbrev pub MapRowsHold : List (ℕ × Row) → List (ℕ × FileRecord) → Type 0
+MapRowsHold rows files = Each (MapRowHolds rows) files
+
+-- no file has a base: none is made yet
+abbrev pub AreBare : List (ℕ × FileRecord) → Type 0
+AreBare files = Each HasNoBase files
 
 -- ---- extents
 
@@ -123,6 +132,8 @@ pub record RulesHold (n : ℕ) (t : Typed) : Type 0 where
   pub records : RecordsHold t.volume t.settings t.results
   pub names : NamesHold t.names t.files
   pub files : FilesHold (next_id_of t) t.files
+  pub map_rows : MapRowsHold t.chunks.rows t.files
+  pub bare : AreBare t.files
   pub extents : ExtentsHold n t.files t.extents
   pub chunks : ChunksHold n (next_id_of t) t.chunks
   pub clusters : ClustersHold t
@@ -145,7 +156,7 @@ IsLeastBroken n m k =
     let t = typed_of m in
     Broken k 1 (AllWellFormed m × RecordsHold t.volume t.settings t.results)
     (Broken k 2 (NamesHold t.names t.files)
-    (Broken k 3 (FilesHold (next_id_of t) t.files)
+    (Broken k 3 (FilesHold (next_id_of t) t.files × AreBare t.files)
     (Broken k 5 (ExtentsHold n t.files t.extents)
     (Broken k 6 (RowsHold (next_id_of t) t.chunks)
     (Broken k 7 (RedirectsHold t.chunks)

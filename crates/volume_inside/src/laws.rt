@@ -16,7 +16,7 @@ ghost use Rattle.volume_inside.specs.Inside.{Inside, inside_at};
 ghost use Rattle.volume_inside.specs.View.{cell, cells};
 ghost use Rattle.volume_inside.specs.Named.{IsUnnamed, named, clusters_of};
 ghost use Rattle.volume_inside.specs.Lists.{IsOut};
-ghost use Rattle.volume_inside.specs.Rules.{RulesHold, IsVolume};
+ghost use Rattle.volume_inside.specs.Rules.{AreBare, RulesHold, IsVolume};
 ghost use Rattle.volume_inside.specs.Shows.{view_at};
 ghost use Rattle.volume_inside.specs.InsideOf.{Reading, InsideOf};
 ghost use Rattle.volume_inside.specs.Space.{IsSpaced};
@@ -59,7 +59,7 @@ pub fn views_are_lawful_volumes()
 
 /// Where no file has a base, no cell is lost.
 pub fn files_without_a_base_lose_no_cell()
-    ensures { (n : ℕ) (t : Typed) (image : List ℕ) → RulesHold n t → All (λ file. IsWhole file.1) (view_at t image) }
+    ensures { (t : Typed) (image : List ℕ) → AreBare t.files → All (λ file. IsWhole file.1) (view_at t image) }
 {}
 
 /// A cell is a byte of its block, once that is set. All other cells stay.

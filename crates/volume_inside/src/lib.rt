@@ -26,6 +26,7 @@ pub use layout::{
 };
 pub use mount_fault::MountFault;
 pub use rules::{
-    LEAST_MINIMUM_SIZE, extent_holds, file_holds, result_holds, settings_hold, volume_record_holds,
+    LEAST_MINIMUM_SIZE, extent_holds, file_holds, is_bare, result_holds, settings_hold,
+    volume_record_holds,
 };
 pub use superblock::{read_superblock, write_superblock};

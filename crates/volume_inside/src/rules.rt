@@ -3,6 +3,7 @@ ghost use Rattle.std.specs.Prelude.{◌≡◌, ◌↔◌, ℕ, List, IsTrue};
 ghost use Rattle.std.specs.Ordering.{nat_cmp};
 ghost use Rattle.std.specs.FinMap.{find};
 ghost use Rattle.table_records.specs.declared.records.FileRecord.{FileRecord};
+ghost use Rattle.volume_inside.specs.ChunkRules.{CoverHolds, HasNoBase};
 ghost use Rattle.volume_inside.specs.Rules.{IsVolumeRecord, AreSettings, are_lawful_texts, IsResultRecord, FileHolds, ExtentHolds};
 
 use crate::layout::{CLUSTER_BYTES, is_data_cluster};
@@ -59,12 +60,29 @@ pub fn result_holds(end: ResultRecord) -> bool
     end.result <= 6
 }
 
+/// Whether a file has a map just where bytes of it are covered, and none is covered behind its end.
+fn cover_holds(file: FileRecord) -> bool
+    ensures { IsTrue result ↔ CoverHolds file }
+{
+    if file.covers == 0 {
+        return file.map_row == 0;
+    }
+    file.map_row != 0 && file.covers <= file.length
+}
+
 /// Whether a file meets the rules of files, where `next_id` is drawn next.
 pub fn file_holds(next_id: u64, id: u64, file: FileRecord) -> bool
     ensures { IsTrue result ↔ FileHolds next_id id file }
 {
     let drawn = id >= 1 && id < next_id;
-    drawn && file.length <= MOST_BYTES_OF_A_FILE && file.map_row == 0 && file.covers == 0
+    drawn && file.length <= MOST_BYTES_OF_A_FILE && cover_holds(file)
+}
+
+/// Whether a file has no base.
+pub fn is_bare(file: FileRecord) -> bool
+    ensures { (id : ℕ) → IsTrue result ↔ HasNoBase id file }
+{
+    file.covers == 0
 }
 
 /// Whether an extent meets the rules of extents, in an image of so many clusters and among files that have this record
