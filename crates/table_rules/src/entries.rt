@@ -6,15 +6,15 @@ ghost use Rattle.std.specs.FinMap.{find};
 ghost use Rattle.table_records.specs.Tables.{name_codec, file_codec, extent_codec};
 ghost use Rattle.volume_inside.specs.Entries.{Each};
 ghost use Rattle.volume_inside.specs.Typed.{typed_of};
-ghost use Rattle.volume_inside.specs.Rules.{NameHolds, FileHolds, ExtentHolds, FilesHold, ExtentsHold, next_id_of};
-ghost use Rattle.table_rules.specs.Pairs.{PairMeets};
+ghost use Rattle.volume_inside.specs.Rules.{NameHolds, ExtentHolds, FilesHold, AreBare, ExtentsHold, next_id_of};
+ghost use Rattle.table_rules.specs.Pairs.{PairMeets, IsBareFile};
 
 use crate::lookup::get;
 use crate::pairs::{PairRule, each};
 use byte_map::ByteMap;
 use plain_volume::name_is_lawful;
-use table_records::{ExtentTable, FileTable, NameTable, Table};
-use volume_inside::{extent_holds, file_holds};
+use table_records::{ExtentTable, FileRecord, FileTable, NameTable, Table};
+use volume_inside::{extent_holds, file_holds, is_bare};
 
 /// A name is lawful, and its file is there.
 #[derive(Drop)]
@@ -46,27 +46,33 @@ pub(crate) fn names_are_lawful(map: &ByteMap) -> bool
     each(map, &NameRule { map })
 }
 
-/// A file meets the rule of files, where this id is drawn next.
+/// A file meets the rule of files, where this id is drawn next, and has no base.
 #[derive(Drop)]
 struct FileRule {
     next_id: u64,
 }
 
 impl PairRule for FileRule {
-    ghost meets = { λ rule. PairMeets file_codec (FileHolds rule.next_id) };
+    ghost meets = { λ rule. PairMeets file_codec (IsBareFile rule.next_id) };
 
     fn holds(&self, key: &[u8], value: &[u8]) -> bool {
         match FileTable::read_key(key) {
-            Some(id) => file_holds(self.next_id, id, FileTable::read_value(value)),
+            Some(id) => is_bare_file(self.next_id, id, FileTable::read_value(value)),
             None => true,
         }
     }
 }
 
-/// Whether the files meet their rule, in tables that draw `next_id` next.
+fn is_bare_file(next_id: u64, id: u64, file: FileRecord) -> bool
+    ensures { IsTrue result ↔ IsBareFile next_id id file }
+{
+    file_holds(next_id, id, file) && is_bare(file)
+}
+
+/// Whether the files meet their rule and have no base, in tables that draw `next_id` next.
 pub(crate) fn files_hold(map: &ByteMap, next_id: u64) -> bool
     requires { next_id_of (typed_of map.now) ≡ next_id }
-    ensures { let t = typed_of map.now in IsTrue result ↔ FilesHold (next_id_of t) t.files }
+    ensures { let t = typed_of map.now in IsTrue result ↔ FilesHold (next_id_of t) t.files × AreBare t.files }
 {
     each(map, &FileRule { next_id })
 }

@@ -31,6 +31,8 @@ rules_with_result n t kind r rules known = record {
   };
   names = rules.names;
   files = rules.files;
+  map_rows = rules.map_rows;
+  bare = rules.bare;
   extents = rules.extents;
   chunks = rules.chunks;
   clusters = rules.clusters;
@@ -42,6 +44,8 @@ rules_with_settings n t s rules are = record {
   records = record { volume = rules.records.volume; settings = one t.settings; results = rules.records.results };
   names = rules.names;
   files = rules.files;
+  map_rows = rules.map_rows;
+  bare = rules.bare;
   extents = rules.extents;
   chunks = rules.chunks;
   clusters = rules.clusters;
