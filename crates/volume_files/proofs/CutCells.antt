@@ -9,47 +9,57 @@ use Rattle.std.specs.FinMap.Entries.{find-put}
 use Rattle.std.proofs.lemmas.Bool.{cases_lt, ne_eqb}
 use Rattle.std.proofs.lemmas.List.{get_or-take, get_or_past, get_or_append_left, get_or-append_right, get_or-replicate, length-replicate, ext_get_or}
 use Rattle.std.proofs.lemmas.List.FromFn.{get_or-map-range_with_len}
-use Rattle.plain_volume.specs.Volume.{Cells, Byte, name_cmp, resized, with_file as with_cells}
+use Rattle.plain_volume.specs.Volume.{Cell, Cells, Byte, name_cmp, resized, with_file as with_cells}
 use Rattle.table_records.specs.Keys.{pair_cmp}
 use Rattle.table_records.specs.Orders.{pair_total}
 use Rattle.table_records.specs.declared.records.FileRecord.{FileRecord}
 use Rattle.table_records.specs.declared.records.Extent.{Extent}
+use Rattle.volume_inside.specs.Bases.{Bases, bases_of, base_cell, cell_behind}
 use Rattle.volume_inside.specs.Changes.{with_file}
 use Rattle.volume_inside.specs.Entries.{each_found}
 use Rattle.volume_inside.specs.Inside.{Inside, inside_at, cluster_bytes, block_of}
 use Rattle.volume_inside.specs.Rules.{next_id_of, FileHolds, LiesIn, ExtentHolds, RulesHold}
 use Rattle.volume_inside.specs.Typed.{Typed, FileBlock}
-use Rattle.volume_inside.specs.View.{cell, cells, cells_or_none, file_cells, view}
+use Rattle.volume_inside.specs.View.{cell, cell_in, cells, cells_or_none, file_cells, view}
 use Rattle.volume_inside.proofs.Cells.{map_same, length-cells}
 use Rattle.volume_inside.proofs.Names.{view_of_one_file}
-use Rattle.volume_files.specs.Lengths.{cut_extent, with_extent_if, cut_if, resized_in}
+use Rattle.volume_files.specs.Lengths.{cut_extent, with_extent_if, cut_if, record_resized, resized_in}
 use Rattle.volume_files.specs.Reads.{byte_in, byte_at}
-use Rattle.volume_files.proofs.CutExtents.{exact_blocks, cut_means, cut_to, found_kept, passes}
-use Rattle.volume_files.proofs.ReadBytes.{cell_byte, find-blocks, no_block, of_block}
+use Rattle.volume_files.proofs.CutExtents.{base_resized, exact_blocks, cut_means, cut_to, found_kept, passes}
+use Rattle.volume_files.proofs.Owned.{find-blocks}
+use Rattle.volume_files.proofs.ReadBytes.{no_block, of_block}
 
--- ---- bytes before the end
+-- blocks give the same cells up to a place of one file, and everywhere in all others
+abbrev AreSame : Inside → Inside → ℕ → ℕ → Type 0
+AreSame i j id len = (x p : ℕ) (base : Cell) → (x ≡ id → p < len)
+    → cell_in (find pair_cmp (x, p / 4096) j.blocks) (p % 4096) base
+    ≡ cell_in (find pair_cmp (x, p / 4096) i.blocks) (p % 4096) base
+
+-- ---- blocks before the end
 
 module _ (t : Typed) (image : List ℕ) (id len : ℕ) (c : Option Extent)
     (is : cut_extent (len % 4096) (find pair_cmp (id, len / 4096) t.extents) ≡ c) where
-  -- the byte of the block of an extent, if there is one
-  abbrev byte_of : Option Extent → ℕ → ℕ
-  byte_of o p = byte_in (option_map (λ e. block_of e image) o) p
+  -- the cell of the block of an extent, or else what the base gives
+  abbrev cell_of : Cell → Option Extent → ℕ → Cell
+  cell_of base o p = cell_in (option_map (λ e. block_of e image) o) p base
 
-  end_byte : (k : FileBlock) (p : ℕ) → (k.0 ≡ id → 4096 * k.1 + p < len)
-      → byte_of (find pair_cmp k (with_extent_if (id, len / 4096) c t).extents) p ≡ byte_of
+  end_cell : (k : FileBlock) (p : ℕ) (base : Cell) → (k.0 ≡ id → 4096 * k.1 + p < len)
+      → cell_of base (find pair_cmp k (with_extent_if (id, len / 4096) c t).extents) p ≡ cell_of base
       (find pair_cmp k t.extents) p
-  end_byte k p low = by c is
+  end_cell k p base low = by c is
     where
       by : (c : Option Extent) → cut_extent (len % 4096) (find pair_cmp (id, len / 4096) t.extents) ≡ c
-          → byte_of (find pair_cmp k (with_extent_if (id, len / 4096) c t).extents) p ≡ byte_of
+          → cell_of base (find pair_cmp k (with_extent_if (id, len / 4096) c t).extents) p ≡ cell_of base
           (find pair_cmp k t.extents) p
       by None none = refl
       by (Some x) cut =
-          ap (λ (o : Option Extent). byte_of o p) (find-put pair_cmp pair_total k (id, len / 4096) x t.extents)
+          ap (λ (o : Option Extent). cell_of base o p)
+          (find-put pair_cmp pair_total k (id, len / 4096) x t.extents)
           ∙ over (eq_by_cmp pair_cmp k (id, len / 4096)) refl
         where
           over : (b : Bool) → eq_by_cmp pair_cmp k (id, len / 4096) ≡ b
-              → byte_of (cond b (Some x) (find pair_cmp k t.extents)) p ≡ byte_of (find pair_cmp k t.extents) p
+              → cell_of base (cond b (Some x) (find pair_cmp k t.extents)) p ≡ cell_of base
+              (find pair_cmp k t.extents) p
           over false other = refl
           over true tie =
               let mine : k ≡ (id, len / 4096) =
@@ -60,27 +70,27 @@ module _ (t : Typed) (image : List ℕ) (id len : ℕ) (c : Option Extent)
               let file : k.0 ≡ id = ap (λ (y : FileBlock). y.0) mine in
               let block : k.1 ≡ len / 4096 = ap (λ (y : FileBlock). y.1) mine in
               let lower : p < len % 4096 = omega (arith, low file, block) in
-              (λ i. get_or (take (h.valid i) (cluster_bytes (h.cluster i) image)) p 0)
+              ap Byte ((λ i. get_or (take (h.valid i) (cluster_bytes (h.cluster i) image)) p 0)
               ∙ get_or-take (len % 4096) (cluster_bytes h.old.cluster image) p 0 lower
-              ∙ sym (get_or-take h.old.valid (cluster_bytes h.old.cluster image) p 0 (omega (arith, lower, h.fewer)))
-              ∙ sym (ap (λ (o : Option Extent). byte_of o p) there)
+              ∙ sym (get_or-take h.old.valid (cluster_bytes h.old.cluster image) p 0 (omega (arith, lower, h.fewer))))
+              ∙ sym (ap (λ (o : Option Extent). cell_of base o p) there)
 
-  kept_byte : (k : FileBlock) (p : ℕ) → (k.0 ≡ id → 4096 * k.1 + p < len)
-      → byte_of (find pair_cmp k (cut_to id len t c).extents) p ≡ byte_of (find pair_cmp k t.extents) p
-  kept_byte k p low =
+  kept_cell : (k : FileBlock) (p : ℕ) (base : Cell) → (k.0 ≡ id → 4096 * k.1 + p < len)
+      → cell_of base (find pair_cmp k (cut_to id len t c).extents) p ≡ cell_of base (find pair_cmp k t.extents) p
+  kept_cell k p base low =
       let es = (with_extent_if (id, len / 4096) c t).extents in
-      ap (λ (o : Option Extent). byte_of o p)
+      ap (λ (o : Option Extent). cell_of base o p)
       (found_kept id len t k es ∙ ap (λ (b : Bool). cond b (find pair_cmp k es) None)
       (passes id len t k (λ same. let l = low same in omega (arith, l))))
-      ∙ end_byte k p low
+      ∙ end_cell k p base low
 
-  -- a byte of another file, or before the end, is as before
-  pub bytes_same : (x p : ℕ) → (x ≡ id → p < len)
-      → byte_at (inside_at (cut_to id len t c) image) x p ≡ byte_at (inside_at t image) x p
-  bytes_same x p low =
-      ap (λ (b : Option (List ℕ)). byte_in b (p % 4096)) (find-blocks (x, p / 4096) (cut_to id len t c).extents image)
-      ∙ kept_byte (x, p / 4096) (p % 4096) (λ same. let l = low same in omega (arith, l))
-      ∙ sym (ap (λ (b : Option (List ℕ)). byte_in b (p % 4096)) (find-blocks (x, p / 4096) t.extents image))
+  -- the cell of a block of another file, or before the end, is as before, whatever the base gives
+  pub blocks_same : AreSame (inside_at t image) (inside_at (cut_to id len t c) image) id len
+  blocks_same x p base low =
+      ap (λ (b : Option (List ℕ)). cell_in b (p % 4096) base)
+      (find-blocks (x, p / 4096) (cut_to id len t c).extents image)
+      ∙ kept_cell (x, p / 4096) (p % 4096) base (λ same. let l = low same in omega (arith, l))
+      ∙ sym (ap (λ (b : Option (List ℕ)). cell_in b (p % 4096) base) (find-blocks (x, p / 4096) t.extents image))
 
 -- ---- cells
 
@@ -102,10 +112,19 @@ module _ (n : ℕ) (t : Typed) (image : List ℕ) (rules : RulesHold n t) (id le
           ∙ get_or_past (block_of e image) (p % 4096) 0
           (omega (arith, lies, past, length-take e.valid (cluster_bytes e.cluster image)))
 
-  module _ (q : Typed) (files : q.files ≡ t.files)
-      (same : (x p : ℕ) → (x ≡ id → p < len) → byte_at (inside_at q image) x p ≡ byte_at (inside_at t image) x p) where
+  -- nothing is there behind its end
+  zero_beyond : (p : ℕ) → file.length ≤ p
+      → cell_in (find pair_cmp (id, p / 4096) (inside_at t image).blocks) (p % 4096) (Byte 0) ≡ Byte 0
+  zero_beyond p past = by (find pair_cmp (id, p / 4096) (inside_at t image).blocks) ∙ ap Byte (beyond p past)
+    where
+      by : (o : Option (List ℕ)) → cell_in o (p % 4096) (Byte 0) ≡ Byte (byte_in o (p % 4096))
+      by None = refl
+      by (Some block) = refl
+
+  module _ (q : Typed) (files : q.files ≡ t.files) (bases : bases_of q image ≡ bases_of t image)
+      (same : AreSame (inside_at t image) (inside_at q image) id len) where
     abbrev now : FileRecord
-    now = record file { length = len }
+    now = record_resized len file
 
     abbrev j : Inside
     j = inside_at (with_file id now q) image
@@ -127,6 +146,21 @@ module _ (n : ℕ) (t : Typed) (image : List ℕ) (rules : RulesHold n t) (id le
     old_length : length (cells i id file) ≡ file.length
     old_length = length-cells i id file
 
+    -- a cell before both ends
+    cell_before : (p : ℕ) → p < len → cell i id file p ≡ cell j id now p
+    cell_before p low =
+        sym (same id p (base_cell j.bases now p) (λ e. low)
+        ∙ ap (λ (c : Cell). cell_in (find pair_cmp (id, p / 4096) i.blocks) (p % 4096) c)
+        (ap (λ (b : Bases). base_cell b now p) bases ∙ base_resized len file i.bases p low))
+
+    -- a cell behind the old end
+    cell_after : (p : ℕ) → p < len → file.length ≤ p → Byte 0 ≡ cell j id now p
+    cell_after p low past =
+        sym (same id p (base_cell j.bases now p) (λ e. low)
+        ∙ ap (λ (c : Cell). cell_in (find pair_cmp (id, p / 4096) i.blocks) (p % 4096) c)
+        (cell_behind j.bases now p (omega (arith, past, holds.cover.within)))
+        ∙ zero_beyond p past)
+
     one_cell : (p : ℕ) → p < len → get_or (resized len (cells i id file)) p (Byte 0) ≡ cell j id now p
     one_cell p low = elim (cases_lt p file.length) [
       | inl before ↦
@@ -136,9 +170,7 @@ module _ (n : ℕ) (t : Typed) (image : List ℕ) (rules : RulesHold n t) (id le
           (Byte 0) p there
           ∙ get_or-take len (cells i id file) p (Byte 0) low
           ∙ get_or-map-range_with_len (cell i id file) 0 file.length p p (Byte 0) before (omega arith)
-          ∙ cell_byte i id p file holds.no_cover
-          ∙ ap Byte (sym (same id p (λ e. low)))
-          ∙ sym (cell_byte j id p now holds.no_cover)
+          ∙ cell_before p low
       | inr past ↦
           let front : length (take len (cells i id file)) ≡ file.length =
           omega (arith, low, past, old_length, length-take len (cells i id file)) in
@@ -146,8 +178,7 @@ module _ (n : ℕ) (t : Typed) (image : List ℕ) (rules : RulesHold n t) (id le
           (replicate (len - length (cells i id file)) (Byte 0)) file.length p (Byte 0) front past
           ∙ get_or-replicate (len - length (cells i id file)) (p - file.length) (Byte 0) (Byte 0)
           (omega (arith, low, past, old_length))
-          ∙ ap Byte (sym (same id p (λ e. low) ∙ beyond p past))
-          ∙ sym (cell_byte j id p now holds.no_cover)
+          ∙ cell_after p low past
     ]
 
     cells_resized : file_cells j id ≡ resized len (file_cells i id)
@@ -177,10 +208,9 @@ module _ (n : ℕ) (t : Typed) (image : List ℕ) (rules : RulesHold n t) (id le
         by : (o : Option FileRecord) → find nat_cmp x t.files ≡ o → cells_or_none j x o ≡ cells_or_none i x o
         by None is = refl
         by (Some f) is =
-            let one = each_found nat_cmp nat_cmp-IsAntisymmetric (FileHolds (next_id_of t)) x f t.files is rules.files in
             map_same (cell j x f) (cell i x f) 0 f.length
-            (λ p low high. cell_byte j x p f one.no_cover ∙ ap Byte (same x p (λ e. absurd (differ e)))
-            ∙ sym (cell_byte i x p f one.no_cover))
+            (λ p low high. same x p (base_cell j.bases f p) (λ e. absurd (differ e))
+            ∙ ap (λ (b : Bases). cell_in (find pair_cmp (x, p / 4096) i.blocks) (p % 4096) (base_cell b f p)) bases)
 
     view_resized_in : (name : List ℕ) → q.names ≡ t.names → T (is_sorted name_cmp t.names)
         → find name_cmp name t.names ≡ Some id
@@ -196,14 +226,14 @@ module _ (n : ℕ) (t : Typed) (image : List ℕ) (rules : RulesHold n t) (id le
   view_resized name sorted named = by (nat_lt len file.length)
     where
       cut_by : (c : Option Extent) → cut_extent (len % 4096) (find pair_cmp (id, len / 4096) t.extents) ≡ c
-          → view (inside_at (with_file id (record file { length = len }) (cut_to id len t c)) image)
+          → view (inside_at (with_file id (record_resized len file) (cut_to id len t c)) image)
           ≡ with_cells name (resized len (file_cells (inside_at t image) id)) (view (inside_at t image))
-      cut_by None is = view_resized_in (cut_to id len t None) refl
-          (bytes_same t image id len None is) name refl sorted named
-      cut_by (Some x) is = view_resized_in (cut_to id len t (Some x)) refl
-          (bytes_same t image id len (Some x) is) name refl sorted named
+      cut_by None is = view_resized_in (cut_to id len t None) refl refl
+          (blocks_same t image id len None is) name refl sorted named
+      cut_by (Some x) is = view_resized_in (cut_to id len t (Some x)) refl refl
+          (blocks_same t image id len (Some x) is) name refl sorted named
 
-      by : (b : Bool) → view (inside_at (with_file id (record file { length = len }) (cut_if b id len t)) image)
+      by : (b : Bool) → view (inside_at (with_file id (record_resized len file) (cut_if b id len t)) image)
           ≡ with_cells name (resized len (file_cells (inside_at t image) id)) (view (inside_at t image))
-      by false = view_resized_in t refl (λ x p low. refl) name refl sorted named
+      by false = view_resized_in t refl refl (λ x p base low. refl) name refl sorted named
       by true = cut_by (cut_extent (len % 4096) (find pair_cmp (id, len / 4096) t.extents)) refl

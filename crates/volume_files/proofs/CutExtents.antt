@@ -1,5 +1,5 @@
 -- The extents of a file that is cut, and the rules that its tables keep.
-use Rattle.std.specs.Prelude.{◌≡◌, ◌⊎◌, ◌≤◌, ◌<◌, ◌+◌, ◌*◌, ◌/◌, ◌%◌, ◌&&◌, ◌==◌, ℕ, Bool, true, false, cond, not, nat_le, nat_lt, T, List, [], ◌∷◌, Option, Some, None, refl}
+use Rattle.std.specs.Prelude.{◌≡◌, ◌⊎◌, ◌≤◌, ◌<◌, ◌+◌, ◌*◌, ◌/◌, ◌%◌, ◌&&◌, ◌==◌, ℕ, Bool, true, false, cond, not, min, nat_eq, nat_le, nat_lt, if◌then◌else◌, IsSomeAnd, T, List, [], ◌∷◌, Option, Some, None, refl}
 use Rattle.std.proofs.Common.{sym, ◌∙◌, ap, subst, inl, inr, arith}
 use Rattle.std.specs.declared.cmp.Ordering.{Ordering}
 use Rattle.std.specs.declared.cmp.Ordering.TheVariants.{Less, Equal, Greater}
@@ -8,6 +8,7 @@ use Rattle.std.specs.Cmp.{ranked, tied_itself}
 use Rattle.std.specs.FinMap.{find, is_sorted, nat_cmp-IsAntisymmetric}
 use Rattle.std.specs.FinMap.Entries.{below_all, find-put, find-where_key, is_sorted-put, is_sorted-where_key, put, where_key}
 use Rattle.std.proofs.lemmas.Bool.{cases_eq, ltb-true, ltb-false, leb-false, le-leb, lt-leb, eq-eqb, eqb-true, ne_eqb, and_parts, and_left}
+use Rattle.std.proofs.lemmas.Bool.Decides.{nat_tests}
 use Rattle.std.proofs.lemmas.Map.Lookups.{exact_pairs, exact_unsigned}
 use Rattle.plain_volume.specs.declared.limits.TheConstants.{MOST_BYTES_OF_A_FILE}
 use Rattle.table_records.specs.Changes.{is_in_range}
@@ -16,6 +17,9 @@ use Rattle.table_records.specs.Orders.{pair_total}
 use Rattle.table_records.specs.declared.records.VolumeRecord.{VolumeRecord}
 use Rattle.table_records.specs.declared.records.FileRecord.{FileRecord}
 use Rattle.table_records.specs.declared.records.Extent.{Extent}
+use Rattle.table_records.specs.declared.chunk_records.Row.{Row}
+use Rattle.volume_inside.specs.Bases.{Bases, base_cell, cell_of_record}
+use Rattle.volume_inside.specs.ChunkRules.{CoverHolds, HasNoBase, IsMapRow, MapRowHolds}
 use Rattle.volume_inside.specs.Changes.{with_file, keep_extents}
 use Rattle.volume_inside.specs.Entries.{Each, each_found}
 use Rattle.volume_inside.specs.Layout.{IsDataCluster}
@@ -25,7 +29,7 @@ use Rattle.volume_inside.specs.Typed.{Typed, FileBlock}
 use Rattle.groundwork.proofs.Bools.{first_true, second_true}
 use Rattle.volume_inside.proofs.Lawfuls.{rules_with_extent, rules_keep_extents, rules_with_file}
 use Rattle.volume_inside.proofs.Spaces.{spaced_same}
-use Rattle.volume_files.specs.Lengths.{cut_extent, with_extent_if, lies_behind, cut_if, resized_in}
+use Rattle.volume_files.specs.Lengths.{cut_extent, with_extent_if, lies_behind, cut_if, record_resized, resized_in}
 use Rattle.volume_files.specs.Needs.{names_more}
 
 pub exact_blocks : (a b : FileBlock) → pair_cmp a b ≡ Equal → a ≡ b
@@ -92,6 +96,41 @@ range_is_behind id len k = by (nat_cmp id k.0) (nat_cmp k.0 (id + 1)) refl refl
     by Greater s low high =
         let one : k.0 < id = ranked id k.0 Greater (sym low) in
         sym (and_left (k.0 == id) (nat_le len (4096 * k.1)) (ne_eqb k.0 id (λ same. omega (arith, one, same))))
+
+-- ---- a record that is cut
+
+-- its base, if any is left, is that of the record before
+module _ (len : ℕ) (file : FileRecord) where
+  abbrev left : ℕ
+  left = min file.covers len
+
+  abbrev row_left : Bool → ℕ
+  row_left b = if b then 0 else file.map_row
+
+  pub cover_resized : CoverHolds file → CoverHolds (record_resized len file)
+  cover_resized holds = record {
+    within = omega arith;
+    no_map = λ none. ap row_left (eq-eqb left 0 none);
+    no_cover = no_cover (nat_eq left 0) (eqb-true left 0);
+  }
+    where
+      no_cover : (b : Bool) → (b ≡ true → left ≡ 0) → row_left b ≡ 0 → left ≡ 0
+      no_cover true none row = none refl
+      no_cover false none row = (let covers = holds.no_cover row in omega (arith, covers))
+
+  pub map_row_resized : (rows : List (ℕ × Row)) (id : ℕ) → MapRowHolds rows id file
+      → MapRowHolds rows id (record_resized len file)
+  map_row_resized rows id holds = by (nat_eq left 0)
+    where
+      by : (b : Bool) → (row_left b ≡ 0 → ⊥) → IsSomeAnd (find nat_cmp (row_left b) rows) IsMapRow
+      by true some = absurd (some refl)
+      by false some = holds some
+
+  -- before the end it gives the same cells
+  pub base_resized : (b : Bases) (p : ℕ) → p < len → base_cell b (record_resized len file) p ≡ base_cell b file p
+  base_resized b p low =
+      cell_of_record b file (record_resized len file) p (grind (arith, nat_tests))
+      (λ covered. ap row_left (ne_eqb left 0 (λ none. omega (arith, none, covered, low))))
 
 -- ---- an extent that is cut
 
@@ -304,20 +343,23 @@ module _ (id len : ℕ) (t : Typed) where
         → ((k : FileBlock) (e : Extent) → find pair_cmp k q.extents ≡ Some e → e.valid ≤ 4096 → k.0 ≡ id
         → 4096 * k.1 + e.valid ≤ len)
         → (file : FileRecord) → find nat_cmp id t.files ≡ Some file → len ≤ MOST_BYTES_OF_A_FILE
-        → RulesHold n (with_file id (record file { length = len }) q)
+        → RulesHold n (with_file id (record_resized len file) q)
     resized_rules q files volume kept order ends file found short =
         let holds = each_found nat_cmp nat_cmp-IsAntisymmetric (FileHolds (next_id_of t)) id file t.files found rules.files in
         let there : find nat_cmp id q.files ≡ Some file =
         ap (λ (fs : List (ℕ × FileRecord)). find nat_cmp id fs) files ∙ found in
-        rules_with_file n q kept id file (record file { length = len }) there
+        rules_with_file n q kept id file (record_resized len file) there
         (record {
           some_id = holds.some_id;
           drawn = subst (λ (v : List (Unit {0} × VolumeRecord)). id < id_after (find single_cmp tt v))
               (sym volume) holds.drawn;
           short = short;
-          no_map = holds.no_map;
-          no_cover = holds.no_cover;
+          cover = cover_resized len file holds.cover;
         })
+        (map_row_resized len file q.chunks.rows id
+        (each_found nat_cmp nat_cmp-IsAntisymmetric (MapRowHolds q.chunks.rows) id file q.files there kept.map_rows))
+        (let none = each_found nat_cmp nat_cmp-IsAntisymmetric HasNoBase id file q.files there kept.bare in
+        omega (arith, none))
         (each_by_find (λ k e. k.0 ≡ id → 4096 * k.1 + e.valid ≤ len) q.extents order
         (λ k e at same. ends k e at (each_found pair_cmp exact_blocks
         (ExtentHolds n q.files) k e q.extents at kept.extents).in_cluster same))
@@ -336,7 +378,7 @@ module _ (id len : ℕ) (t : Typed) where
             omega (arith, mine, longer)
 
         cut_by : (c : Option Extent) → cut_extent (len % 4096) (find pair_cmp key t.extents) ≡ c
-            → RulesHold n (with_file id (record file { length = len }) (cut_to c))
+            → RulesHold n (with_file id (record_resized len file) (cut_to c))
         cut_by None is =
             resized_rules (cut_to None) refl refl
             (rules_keep_extents n (with_extent_if key None t) (rules_end None is) test)
@@ -348,7 +390,7 @@ module _ (id len : ℕ) (t : Typed) where
             (ends_within (Some x) is) file found short
 
         by : (b : Bool) → nat_lt len file.length ≡ b
-            → RulesHold n (with_file id (record file { length = len }) (cut_if b id len t))
+            → RulesHold n (with_file id (record_resized len file) (cut_if b id len t))
         by false is = resized_rules t refl refl rules sorted
             (λ k e at small same. grown k e (ltb-false len file.length is) at same) file found short
         by true is = cut_by (cut_extent (len % 4096) (find pair_cmp key t.extents)) refl

@@ -29,14 +29,14 @@ use Rattle.volume_files.specs.Insides.{Blocks, of_id, of_record, cut_one, blocks
 use Rattle.volume_files.specs.Insides.{id_renamed, id_deleted, id_resized, inside_created, inside_renamed}
 use Rattle.volume_files.specs.Insides.{inside_deleted, inside_resized, block_written, blocks_written, with_blocks}
 use Rattle.volume_files.specs.Insides.{file_written, id_written}
-use Rattle.volume_files.specs.Lengths.{cut_extent, with_extent_if, lies_behind, cut_if, resized_in}
+use Rattle.volume_files.specs.Lengths.{cut_extent, with_extent_if, lies_behind, cut_if, record_resized, resized_in}
 use Rattle.volume_files.specs.Names.{with_new, with_renamed, without_name}
 use Rattle.volume_files.specs.Needs.{touched}
 use Rattle.volume_files.specs.Reads.{byte_in}
 use Rattle.volume_files.specs.Writing.{laid, named_bytes, reaching, blocks_up_to}
 use Rattle.volume_files.proofs.CutExtents.{exact_blocks, cut_means, cut_none}
 use Rattle.volume_files.proofs.Extents.{same_found, found_put, found_beside}
-use Rattle.volume_files.proofs.Touched.{find-blocks}
+use Rattle.volume_files.proofs.Owned.{find-blocks}
 
 -- ---- a call that changed the tables over an image that stayed, once room was made
 
@@ -169,10 +169,10 @@ module _ (id len : ℕ) (t : Typed) (image : List ℕ) (sorted : T (is_sorted pa
   file_is_resized : (file : FileRecord)
       → inside_at (resized_in id file len t) image ≡ file_resized id len file (inside_at t image)
   file_is_resized file =
-      ap (λ (q : Typed). inside_at (with_file id (record file { length = len }) q) image)
+      ap (λ (q : Typed). inside_at (with_file id (record_resized len file) q) image)
       (cut_alone (nat_lt len file.length))
       ∙ (λ i. record (inside_at t image) {
-        files = put nat_cmp id (record file { length = len }) t.files;
+        files = put nat_cmp id (record_resized len file) t.files;
         blocks = cut_blocks (nat_lt len file.length) i;
       })
 

@@ -5,6 +5,7 @@ pub mod Found
 pub mod Taking
 pub mod Setting
 pub mod BlockSet
+pub mod Owned
 pub mod Touched
 pub mod NewFile
 pub mod ReadBytes

@@ -14,13 +14,14 @@ use Rattle.table_records.specs.Keys.{pair_cmp}
 use Rattle.table_records.specs.declared.records.FileRecord.{FileRecord}
 use Rattle.table_records.specs.declared.records.Extent.{Extent}
 use Rattle.volume_inside.specs.Typed.{Typed, FileBlock}
-use Rattle.volume_inside.specs.Bases.{base_cell, uncovered_cell}
 use Rattle.volume_inside.specs.Entries.{each_found}
 use Rattle.volume_inside.specs.Inside.{Inside, inside_at, block_of, blocks_of, cluster_bytes}
 use Rattle.volume_inside.specs.Rules.{next_id_of, FileHolds, ExtentHolds, ExtentsHold, RulesHold}
 use Rattle.volume_inside.specs.View.{cell, cell_in, cells, cells_or_none, file_cells}
+use Rattle.volume_files.specs.Own.{AreOwn}
 use Rattle.volume_files.specs.Reads.{byte_in, byte_at}
 use Rattle.volume_files.specs.Stretches.{HasBytes}
+use Rattle.volume_files.proofs.Owned.{IsOwnAt, cell_byte, find-blocks, own_at}
 
 -- ---- bytes of cells
 
@@ -40,15 +41,8 @@ get_or-bytes_of (Lost ∷ cs) zero = refl
 get_or-bytes_of (Byte b ∷ cs) (suc k) = get_or-bytes_of cs k
 get_or-bytes_of (Lost ∷ cs) (suc k) = get_or-bytes_of cs k
 
--- a file with no base has the bytes of its blocks
-pub cell_byte : (i : Inside) (id p : ℕ) (file : FileRecord) → file.covers ≡ 0 → cell i id file p ≡ Byte (byte_at i id p)
-cell_byte i id p file none = by (find pair_cmp (id, p / 4096) i.blocks)
-  where
-    by : (o : Option (List ℕ)) → cell_in o (p % 4096) (base_cell i.bases file p) ≡ Byte (byte_in o (p % 4096))
-    by None = uncovered_cell i.bases file p none
-    by (Some block) = refl
-
-module _ (i : Inside) (id at n : ℕ) (file : FileRecord) (none : file.covers ≡ 0) (fits : at + n ≤ file.length) where
+module _ (i : Inside) (id at n : ℕ) (file : FileRecord) (own : (k : ℕ) → k < n → IsOwnAt i id file (at + k))
+    (fits : at + n ≤ file.length) where
   wanted : (k : ℕ) → k < n → get_or (bytes_of (take n (drop at (cells i id file)))) k 0 ≡ byte_at i id (at + k)
   wanted k low =
       get_or-bytes_of (take n (drop at (cells i id file))) k
@@ -56,7 +50,7 @@ module _ (i : Inside) (id at n : ℕ) (file : FileRecord) (none : file.covers �
       ∙ get_or-drop at (cells i id file) k (Byte 0)
       ∙ get_or-map-range_with_len (cell i id file) 0 file.length (at + k) (at + k) (Byte 0)
       (omega (arith, low, fits)) (omega arith)
-      ∙ cell_byte i id (at + k) file none)
+      ∙ cell_byte i id (at + k) file (own k low))
 
   wanted_length : length (bytes_of (take n (drop at (cells i id file)))) ≡ n
   wanted_length =
@@ -92,10 +86,10 @@ module _ (n : ℕ) (t : Typed) (image : List ℕ) (rules : RulesHold n t) (id at
           let long = length-map-range_with_len (cell (inside_at t image) id file) 0 file.length in
           omega (arith, within, long, holds.short)
 
-  pub file_read : (out : List ℕ) → length out ≡ count
+  pub file_read : AreOwn t id at (at + count) → (out : List ℕ) → length out ≡ count
       → ((k : ℕ) → k < count → get_or out k 0 ≡ byte_at (inside_at t image) id (at + k))
       → out ≡ bytes_of (take count (drop at (file_cells (inside_at t image) id)))
-  file_read out long read = by (find nat_cmp id t.files) refl fits
+  file_read own out long read = by (find nat_cmp id t.files) refl fits
     where
       by : (o : Option FileRecord) → find nat_cmp id t.files ≡ o
           → at + count ≤ length (cells_or_none (inside_at t image) id o)
@@ -109,22 +103,12 @@ module _ (n : ℕ) (t : Typed) (image : List ℕ) (rules : RulesHold n t) (id at
           empty [] e = refl
           empty (x ∷ xs) e = absurd (omega (arith, e))
       by (Some file) is within =
-          let holds = each_found nat_cmp nat_cmp-IsAntisymmetric (FileHolds (next_id_of t)) id file t.files is rules.files in
           let size = length-map-range_with_len (cell (inside_at t image) id file) 0 file.length in
-          all_read (inside_at t image) id at count file holds.no_cover (omega (arith, within, size)) out long read
+          all_read (inside_at t image) id at count file
+          (λ k low. own_at t image id file is (at + k) (own (at + k) (omega arith) (omega (arith, low))))
+          (omega (arith, within, size)) out long read
 
 -- ---- blocks
-
--- the block of a key is that of its extent
-pub find-blocks : (k : FileBlock) (es : List (FileBlock × Extent)) (image : List ℕ)
-    → find pair_cmp k (blocks_of es image) ≡ option_map (λ e. block_of e image) (find pair_cmp k es)
-find-blocks k [] image = refl
-find-blocks k (e ∷ es) image =
-    elim (eq_by_cmp pair_cmp k e.0) as (λ b. cond b (Some (block_of e.1 image)) (find pair_cmp k (blocks_of es image))
-    ≡ option_map (λ x. block_of x image) (cond b (Some e.1) (find pair_cmp k es))) [
-      | true ↦ refl
-      | false ↦ find-blocks k es image
-    ]
 
 -- what a block that is not there reads as, and one that is
 pub no_block : (k : FileBlock) (t : Typed) (image : List ℕ) (o : ℕ) → find pair_cmp k t.extents ≡ None

@@ -13,7 +13,7 @@ use Rattle.plain_volume.specs.Volume.{Byte, is_within}
 use Rattle.table_records.specs.Keys.{pair_cmp}
 use Rattle.table_records.specs.declared.records.Extent.{Extent}
 use Rattle.table_records.specs.declared.records.FileRecord.{FileRecord}
-use Rattle.volume_inside.specs.Bases.{base_cell, uncovered_cell}
+use Rattle.volume_inside.specs.Bases.{base_cell, cell_behind}
 use Rattle.volume_inside.specs.Entries.{each_found}
 use Rattle.volume_inside.specs.Inside.{Inside, inside_at, block_of, blocks_of}
 use Rattle.volume_inside.specs.Typed.{Typed, FileBlock}
@@ -25,6 +25,7 @@ use Rattle.volume_tables.specs.Tables.{new_bytes}
 use Rattle.volume_files.specs.Needs.{missing, one_if_none}
 use Rattle.volume_files.specs.Writing.{laid, laid_from, named_bytes, blocks_up_to, AreExtentsSet}
 use Rattle.volume_files.proofs.Extents.{found_put, found_beside}
+use Rattle.volume_files.proofs.Owned.{find-blocks, not_covered}
 use Rattle.volume_files.proofs.BlockSet.{found_file}
 
 -- ---- extents that are missing
@@ -101,53 +102,46 @@ extents_then file index to a b c e low set more = record {
 
 -- ---- cells
 
-pub find-blocks : (k : FileBlock) (es : List (FileBlock × Extent)) (image : List ℕ)
-    → find pair_cmp k (blocks_of es image) ≡ option_map (λ e. block_of e image) (find pair_cmp k es)
-find-blocks k [] image = refl
-find-blocks k (x ∷ es) image =
-    elim (eq_by_cmp pair_cmp k x.0) as (λ b. cond b (Some (block_of x.1 image)) (find pair_cmp k (blocks_of es image))
-    ≡ option_map (λ e. block_of e image) (cond b (Some x.1) (find pair_cmp k es))) [
-      | true ↦ refl
-      | false ↦ find-blocks k es image
-    ]
-
--- a cell of a file without a base is a byte that an extent names, or 0
+-- a cell that comes from no base is a byte that an extent names, or 0
 pub cell_named : (t : Typed) (image : List ℕ) (id : ℕ) (file : FileRecord) (p : ℕ) (was : Option Extent)
-    → file.covers ≡ 0
+    → (p < file.covers → IsSome was)
     → find pair_cmp (id, p / 4096) t.extents ≡ was
     → cell (inside_at t image) id file p ≡ Byte (get_or (named_bytes was image) (p % 4096) 0)
-cell_named t image id file p was none found =
+cell_named t image id file p was own found =
     let i = inside_at t image in
     ap (λ (o : Option (List ℕ)). cell_in o (p % 4096) (base_cell i.bases file p))
     (find-blocks (id, p / 4096) t.extents image ∙ ap (λ (o : Option Extent). option_map (λ e. block_of e image) o)
     found)
-    ∙ by was
+    ∙ by was own
   where
-    by : (o : Option Extent) → cell_in (option_map (λ e. block_of e image) o) (p % 4096)
-        (base_cell (inside_at t image).bases file p)
+    by : (o : Option Extent) → (p < file.covers → IsSome o)
+        → cell_in (option_map (λ e. block_of e image) o) (p % 4096) (base_cell (inside_at t image).bases file p)
         ≡ Byte (get_or (named_bytes o image) (p % 4096) 0)
-    by None = uncovered_cell (inside_at t image).bases file p none
+    by None own = cell_behind (inside_at t image).bases file p (not_covered p file.covers own)
         ∙ ap Byte (sym (get_or_past [] (p % 4096) 0 (omega arith)))
-    by (Some e) = refl
+    by (Some e) own = refl
 
 -- the cells of a file whose blocks from one on were written, where those from the next on were
 module _ (file index at : ℕ) (bytes : List ℕ) (grown : FileRecord) (was : Option Extent) (t : Typed)
     (image block : List ℕ) (i : Inside) where
-  pub cells_then : grown.covers ≡ 0 → find pair_cmp (file, index) t.extents ≡ was
+  pub cells_then : ((p : ℕ) → p / 4096 ≡ index → is_within at (length bytes) p ≡ false → p < grown.covers → IsSome was)
+      → find pair_cmp (file, index) t.extents ≡ was
       → i ≡ with_block (file, index) block (inside_at t image)
       → ((o : ℕ) → o < 4096 → 4096 * index + o < grown.length
       → get_or block o 0 ≡ laid at bytes (4096 * index + o) (get_or (named_bytes was image) o 0))
       → (p : ℕ) → p < grown.length
       → laid_from (4096 * (index + 1)) at bytes p (cell i file grown p) ≡ laid_from (4096 * index) at bytes p
       (cell (inside_at t image) file grown p)
-  cells_then none found set written p low = elim (cases_eq (p / 4096) index) [
+  cells_then own found set written p low = elim (cases_eq (p / 4096) index) [
     | inl here ↦
         let under : nat_le (4096 * (index + 1)) p ≡ false = grind (arith, nat_tests) in
         let above : nat_le (4096 * index) p ≡ true = grind (arith, nat_tests) in
         let place : 4096 * index + p % 4096 ≡ p = omega (arith, here) in
         let key : find pair_cmp (file, p / 4096) t.extents ≡ was = ap (λ (n : ℕ). find pair_cmp (file, n) t.extents)
         here ∙ found in
-        let old = cell_named t image file grown p was none key in
+        let old : is_within at (length bytes) p ≡ false → cell (inside_at t image) file grown p
+        ≡ Byte (get_or (named_bytes was image) (p % 4096) 0) =
+        λ out. cell_named t image file grown p was (own p here out) key in
         let new : cell i file grown p ≡ Byte (get_or block (p % 4096) 0) =
         ap (λ (j : Inside). cell j file grown p) set
         ∙ ap (λ (q : ℕ). cell (with_block (file, index) block (inside_at t image)) file grown q) (sym place)
@@ -157,8 +151,9 @@ module _ (file index at : ℕ) (bytes : List ℕ) (grown : FileRecord) (was : Op
         ∙ new
         ∙ ap Byte (written (p % 4096) (omega arith) (omega (arith, place, low))
         ∙ ap (λ (q : ℕ). laid at bytes q (get_or (named_bytes was image) (p % 4096) 0)) place)
-        ∙ pick (is_within at (length bytes) p)
-        ∙ (λ j. if (sym above j && is_within at (length bytes) p) then Byte (get_or bytes (p - at) 0) else sym old j)
+        ∙ pick (is_within at (length bytes) p) (λ out. sym (old out))
+        ∙ (λ j. if (sym above j && is_within at (length bytes) p) then Byte (get_or bytes (p - at) 0)
+        else cell (inside_at t image) file grown p)
     | inr away ↦
         let same : cell i file grown p ≡ cell (inside_at t image) file grown p =
         ap (λ (j : Inside). cell j file grown p) set ∙ cell_of_another_block (inside_at t image) file index block p
@@ -167,18 +162,12 @@ module _ (file index at : ℕ) (bytes : List ℕ) (grown : FileRecord) (was : Op
         λ j. if (test j && is_within at (length bytes) p) then Byte (get_or bytes (p - at) 0) else same j
   ]
     where
-      pick : (b : Bool) → Byte (if b then get_or bytes (p - at) 0 else get_or (named_bytes was image) (p % 4096) 0)
-          ≡ (if b then Byte (get_or bytes (p - at) 0) else Byte (get_or (named_bytes was image) (p % 4096) 0))
-      pick true = refl
-      pick false = refl
-
--- a file that was put covers nothing, where the rules hold
-pub put_covers : (n id : ℕ) (file : FileRecord) (t : Typed) → RulesHold n (with_file id file t) → file.covers ≡ 0
-put_covers n id file t rules =
-    let u = with_file id file t in
-    let holds = each_found nat_cmp nat_cmp-IsAntisymmetric (FileHolds (next_id_of u)) id file u.files (found_file id file t.files)
-    rules.files in
-    holds.no_cover
+      pick : (b : Bool)
+          → (b ≡ false → Byte (get_or (named_bytes was image) (p % 4096) 0) ≡ cell (inside_at t image) file grown p)
+          → Byte (if b then get_or bytes (p - at) 0 else get_or (named_bytes was image) (p % 4096) 0)
+          ≡ (if b then Byte (get_or bytes (p - at) 0) else cell (inside_at t image) file grown p)
+      pick true stood = refl
+      pick false stood = stood refl
 
 -- the cells of another file
 pub cell_apart : (i j : Inside) (id n : ℕ) (bytes : List ℕ) (other p : ℕ) (file : FileRecord) → (other ≡ id → ⊥)

@@ -1,5 +1,5 @@
 -- What the plain machine answers to a write into a file that has lost no cell.
-use Rattle.std.specs.Prelude.{◌≡◌, ◌⊎◌, ◌≤◌, ◌<◌, ◌+◌, ◌/◌, ◌%◌, ℕ, zero, suc, Bool, false, List, [], ◌∷◌, length, map}
+use Rattle.std.specs.Prelude.{◌≡◌, ◌⊎◌, ◌≤◌, ◌<◌, ◌+◌, ℕ, zero, suc, Bool, true, false, if◌then◌else◌, List, [], ◌∷◌, length, map}
 use Rattle.std.specs.Prelude.{get_or, Option, Some, None, Result, Ok, Err, IsTrue, OnErr, IsErrOf, refl}
 use Rattle.std.proofs.Common.{◌∙◌, ap, subst, inl, inr, ⊎_elim, arith, lt-ltb, le-ltb}
 use Rattle.std.specs.List.{range_with_len}
@@ -7,7 +7,7 @@ use Rattle.std.specs.Ordering.{nat_cmp}
 use Rattle.std.specs.FinMap.{find}
 use Rattle.vdisk.specs.Causes.{Rose}
 use Rattle.vdisk.specs.declared.disk.Disk.{Ghosts}
-use Rattle.plain_volume.specs.Volume.{Cell, Byte, Volume, is_beside, lost_where, overwritten}
+use Rattle.plain_volume.specs.Volume.{Cell, Byte, Lost, Volume, is_beside, lost_where, overwritten}
 use Rattle.plain_volume.specs.Volume.{with_file as with_cells}
 use Rattle.plain_volume.specs.Step.{Outcome, refuse_if, unless_lost, lost_beside, write, write_within, write_whole}
 use Rattle.plain_volume.specs.Replies.{done_reply}
@@ -15,44 +15,53 @@ use Rattle.plain_volume.specs.declared.call.Reply.TheVariants as reply
 use Rattle.plain_volume.specs.declared.call.Fault.{Fault}
 use Rattle.plain_volume.specs.declared.call.Fault.TheVariants.{TooLarge, Failed, Memory}
 use Rattle.plain_volume.specs.declared.limits.TheConstants.{MOST_BYTES_OF_A_CALL, MOST_BYTES_OF_A_FILE}
-use Rattle.table_records.specs.Keys.{pair_cmp}
 use Rattle.table_records.specs.declared.records.FileRecord.{FileRecord}
 use Rattle.volume_inside.specs.Inside.{inside_at}
-use Rattle.volume_inside.specs.Laws.{IsWhole}
 use Rattle.volume_inside.specs.Typed.{Typed}
 use Rattle.volume_inside.specs.View.{cell, cells_or_none, file_cells}
-use Rattle.volume_inside.specs.Rules.{RulesHold}
 use Rattle.volume_tables.specs.Tables.{tables_now, stopped, IsTables}
 use Rattle.volume_tables.specs.declared.tables.Tables.{Tables}
 use Rattle.volume_tables.specs.Sound.{IsKept, Endures}
 use Rattle.volume_tables.specs.Wants.{is_late, wanting, IsRepliedOrMemory}
 use Rattle.volume_tables.proofs.Wanted.{replied_done}
 use Rattle.volume_files.specs.Needs.{write_needs}
-use Rattle.volume_files.specs.Writing.{named_bytes, write_wants, IsWritten, AreWritten}
-use Rattle.volume_files.proofs.Touched.{cell_named}
-use Rattle.volume_files.proofs.Written.{no_cover}
+use Rattle.volume_files.specs.Own.{AreOwnAround}
+use Rattle.volume_files.specs.Reads.{byte_at}
+use Rattle.volume_files.specs.Writing.{write_wants, IsWritten, AreWritten}
+use Rattle.volume_files.proofs.Owned.{cell_byte, own_at}
 
--- ---- no cell is lost
+-- ---- no cell beside the bytes is lost
 
-bytes_are_whole : (f : ℕ → Cell) (byte : ℕ → ℕ) (a n k : ℕ) (test : ℕ → Bool) → ((p : ℕ) → f p ≡ Byte (byte p))
-    → lost_where test k (map f (range_with_len a n)) ≡ None
-bytes_are_whole f byte a zero k test is = refl
-bytes_are_whole f byte a (suc n) k test is =
-    ap (λ (x : Cell). lost_where test k (x ∷ map f (range_with_len (a + 1) n))) (is a)
-    ∙ bytes_are_whole f byte (a + 1) n (k + 1) test is
+bytes_are_whole : (f : ℕ → Cell) (byte : ℕ → ℕ) (a n : ℕ) (test : ℕ → Bool)
+    → ((p : ℕ) → test p ≡ true → f p ≡ Byte (byte p)) → lost_where test a (map f (range_with_len a n)) ≡ None
+bytes_are_whole f byte a zero test is = refl
+bytes_are_whole f byte a (suc n) test is = by (f a) (is a) (bytes_are_whole f byte (a + 1) n test is)
+  where
+    passed : (b : Bool) → (b ≡ true → ⊥)
+        → lost_where test (a + 1) (map f (range_with_len (a + 1) n)) ≡ None
+        → (if b then Some a else lost_where test (a + 1) (map f (range_with_len (a + 1) n))) ≡ None
+    passed true never rest = absurd (never refl)
+    passed false never rest = rest
 
-pub file_is_whole : (n : ℕ) (t : Typed) (image : List ℕ) (id : ℕ) → RulesHold n t
-    → IsWhole (file_cells (inside_at t image) id)
-file_is_whole n t image id rules test k = by (find nat_cmp id t.files) refl
+    by : (x : Cell) → (test a ≡ true → x ≡ Byte (byte a))
+        → lost_where test (a + 1) (map f (range_with_len (a + 1) n)) ≡ None
+        → lost_where test a (x ∷ map f (range_with_len (a + 1) n)) ≡ None
+    by (Byte b) one rest = rest
+    by Lost one rest = passed (test a) (λ yes. let clash : Lost ≡ Byte (byte a) = one yes in absurd (cc)) rest
+
+pub beside_is_whole : (t : Typed) (image : List ℕ) (id at : ℕ) (bytes : List ℕ) → AreOwnAround t id at bytes
+    → lost_beside at bytes (file_cells (inside_at t image) id) ≡ None
+beside_is_whole t image id at [] own = refl
+beside_is_whole t image id at (x ∷ xs) own = by (find nat_cmp id t.files) refl
   where
     by : (o : Option FileRecord) → find nat_cmp id t.files ≡ o
-        → lost_where test k (cells_or_none (inside_at t image) id o) ≡ None
+        → lost_where (is_beside at (length (x ∷ xs))) 0 (cells_or_none (inside_at t image) id o) ≡ None
     by None is = refl
     by (Some file) is =
-        bytes_are_whole (cell (inside_at t image) id file) (λ p. get_or
-        (named_bytes (find pair_cmp (id, p / 4096) t.extents) image) (p % 4096) 0) 0 file.length k test
-        (λ p. cell_named t image id file p (find pair_cmp (id, p / 4096) t.extents) (no_cover n t rules id 0 file is)
-        refl)
+        bytes_are_whole (cell (inside_at t image) id file) (λ p. byte_at (inside_at t image) id p) 0 file.length
+        (is_beside at (length (x ∷ xs)))
+        (λ p beside. cell_byte (inside_at t image) id p file
+        (own_at t image id file is p (own p beside)))
 
 -- ---- outcomes
 
@@ -73,21 +82,17 @@ module _ (name : List ℕ) (at : ℕ) (bytes : List ℕ) (v : Volume) (cells : L
       few_is few ∙ ap (λ (b : Bool). refuse_if b (TooLarge MOST_BYTES_OF_A_FILE) (write_whole name at bytes v cells))
       (lt-ltb MOST_BYTES_OF_A_FILE (at + length bytes) far)
 
-  pub done : length bytes ≤ MOST_BYTES_OF_A_CALL → at + length bytes ≤ MOST_BYTES_OF_A_FILE → IsWhole cells
+  pub done : length bytes ≤ MOST_BYTES_OF_A_CALL → at + length bytes ≤ MOST_BYTES_OF_A_FILE
+      → lost_beside at bytes cells ≡ None
       → write name at bytes v cells ≡ Ok (reply.Done, with_cells name (overwritten at bytes cells) v)
   done few near whole =
       few_is few
       ∙ ap (λ (b : Bool). refuse_if b (TooLarge MOST_BYTES_OF_A_FILE) (write_whole name at bytes v cells))
       (le-ltb MOST_BYTES_OF_A_FILE (at + length bytes) near)
-      ∙ ap (λ (o : Option ℕ). unless_lost o (Ok (reply.Done, with_cells name (overwritten at bytes cells) v)))
-      (none bytes)
-    where
-      none : (bs : List ℕ) → lost_beside at bs cells ≡ None
-      none [] = refl
-      none (x ∷ xs) = whole (is_beside at (length (x ∷ xs))) 0
+      ∙ ap (λ (o : Option ℕ). unless_lost o (Ok (reply.Done, with_cells name (overwritten at bytes cells) v))) whole
 
-  pub late : length bytes ≤ MOST_BYTES_OF_A_CALL → at + length bytes ≤ MOST_BYTES_OF_A_FILE → IsWhole cells
-      → IsTrue (is_late (write name at bytes v cells))
+  pub late : length bytes ≤ MOST_BYTES_OF_A_CALL → at + length bytes ≤ MOST_BYTES_OF_A_FILE
+      → lost_beside at bytes cells ≡ None → IsTrue (is_late (write name at bytes v cells))
   late few near whole = ap (λ (o : Outcome). is_late o) (done few near whole)
 
 -- ---- replies

@@ -12,7 +12,8 @@ use Rattle.plain_volume.specs.Volume.{Cell, Byte, overwritten}
 use Rattle.table_records.specs.Keys.{pair_cmp}
 use Rattle.table_records.specs.declared.records.Extent.{Extent}
 use Rattle.table_records.specs.declared.records.FileRecord.{FileRecord}
-use Rattle.volume_inside.specs.Bases.{uncovered_cell}
+use Rattle.volume_inside.specs.Bases.{cell_of_record}
+use Rattle.volume_inside.specs.ChunkRules.{HasNoBase, MapRowHolds}
 use Rattle.volume_inside.specs.Entries.{each_found, each_weaker}
 use Rattle.volume_inside.specs.Inside.{inside_at, block_of, cluster_bytes}
 use Rattle.volume_inside.specs.Layout.{data_clusters}
@@ -45,9 +46,6 @@ module _ (n : ℕ) (t : Typed) (rules : RulesHold n t) (id to : ℕ) (was : File
   held_before : FileHolds (next_id_of t) id was
   held_before = each_found nat_cmp nat_cmp-IsAntisymmetric (FileHolds (next_id_of t)) id was t.files found rules.files
 
-  pub no_cover : was.covers ≡ 0
-  no_cover = held_before.no_cover
-
   pub grown_short : to ≤ 1073741824 → (reaching to was).length ≤ 1073741824
   grown_short short = omega (arith, held_before.short, short)
 
@@ -58,9 +56,14 @@ module _ (n : ℕ) (t : Typed) (rules : RulesHold n t) (id to : ℕ) (was : File
         some_id = held_before.some_id;
         drawn = held_before.drawn;
         short = grown_short short;
-        no_map = held_before.no_map;
-        no_cover = held_before.no_cover;
+        cover = record {
+          within = omega (arith, held_before.cover.within);
+          no_map = held_before.cover.no_map;
+          no_cover = held_before.cover.no_cover;
+        };
       })
+      (each_found nat_cmp nat_cmp-IsAntisymmetric (MapRowHolds t.chunks.rows) id was t.files found rules.map_rows)
+      (each_found nat_cmp nat_cmp-IsAntisymmetric HasNoBase id was t.files found rules.bare)
       (each_weaker (ExtentHolds n t.files) (λ k e. k.0 ≡ id → 4096 * k.1 + e.valid ≤ (reaching to was).length) t.extents
       (λ k e holds same.
       let lies : 4096 * k.1 + e.valid ≤ was.length =
@@ -71,7 +74,8 @@ module _ (n : ℕ) (t : Typed) (rules : RulesHold n t) (id to : ℕ) (was : File
   -- zeros are behind its end
   pub zero_behind : (image : List ℕ) (p : ℕ) → was.length ≤ p → cell (inside_at t image) id was p ≡ Byte 0
   zero_behind image p past =
-      cell_named t image id was p (find pair_cmp (id, p / 4096) t.extents) no_cover refl
+      cell_named t image id was p (find pair_cmp (id, p / 4096) t.extents)
+      (λ low. absurd (omega (arith, low, past, held_before.cover.within))) refl
       ∙ ap Byte (by (find pair_cmp (id, p / 4096) t.extents) refl)
     where
       by : (o : Option Extent) → find pair_cmp (id, p / 4096) t.extents ≡ o
@@ -90,7 +94,7 @@ module _ (n : ℕ) (t : Typed) (rules : RulesHold n t) (id to : ℕ) (was : File
   same_cell image p =
       let i = inside_at t image in
       ap (λ (x : Cell). cell_in (find pair_cmp (id, p / 4096) i.blocks) (p % 4096) x)
-      (uncovered_cell i.bases (reaching to was) p no_cover ∙ sym (uncovered_cell i.bases was p no_cover))
+      (cell_of_record i.bases was (reaching to was) p refl (λ low. refl))
 
 -- ---- its cells
 

@@ -12,7 +12,7 @@ use Rattle.table_records.specs.declared.records.FileRecord.{FileRecord}
 use Rattle.volume_inside.specs.Typed.{FileBlock}
 use Rattle.volume_inside.specs.Inside.{Inside}
 use Rattle.volume_inside.specs.Rules.{id_after}
-use Rattle.volume_files.specs.Lengths.{lies_behind}
+use Rattle.volume_files.specs.Lengths.{lies_behind, record_resized}
 use Rattle.volume_files.specs.Names.{empty_file, is_other}
 use Rattle.volume_files.specs.Needs.{first_touched, touched}
 use Rattle.volume_files.specs.Reads.{byte_in}
@@ -83,11 +83,11 @@ blocks_cut_if false id len blocks = blocks
 
 abbrev pub file_resized : ℕ → ℕ → FileRecord → Inside → Inside
 file_resized id len file i = record i {
-  files = put nat_cmp id (record file { length = len }) i.files;
+  files = put nat_cmp id (record_resized len file) i.files;
   blocks = blocks_cut_if (nat_lt len file.length) id len i.blocks;
 }
 
--- the file of an id with another length; where that is shorter its blocks are cut
+-- the file of an id with another length; where that is shorter its blocks and its base are cut
 abbrev pub id_resized : ℕ → ℕ → Inside → Inside
 id_resized id len i = of_record (find nat_cmp id i.files) (λ file. file_resized id len file i) i
 

@@ -1,5 +1,5 @@
 -- The tables once a file has another length, and what is wanting for it.
-use Rattle.std.specs.Prelude.{◌/◌, ◌%◌, ◌*◌, ◌&&◌, ◌==◌, ℕ, Bool, true, false, cond, not, nat_le, nat_lt, List, Option, Some, None}
+use Rattle.std.specs.Prelude.{◌/◌, ◌%◌, ◌*◌, ◌&&◌, ◌==◌, ℕ, Bool, true, false, cond, not, min, nat_eq, nat_le, nat_lt, if◌then◌else◌, List, Option, Some, None}
 use Rattle.std.specs.Ordering.{nat_cmp}
 use Rattle.std.specs.FinMap.{find}
 use Rattle.vdisk.specs.declared.disk.Disk.{Ghosts}
@@ -42,9 +42,17 @@ abbrev pub cut_if : Bool → ℕ → ℕ → Typed → Typed
 cut_if true id len t = cut_at id len t
 cut_if false id len t = t
 
+-- the record of a file with another length: its base covers no more than that, and goes where it covers nothing
+abbrev pub record_resized : ℕ → FileRecord → FileRecord
+record_resized len file = record {
+  length = len;
+  map_row = if nat_eq (min file.covers len) 0 then 0 else file.map_row;
+  covers = min file.covers len;
+}
+
 -- the tables once a file has another length: its record, and where it is shorter its blocks are cut
 abbrev pub resized_in : ℕ → FileRecord → ℕ → Typed → Typed
-resized_in id file len t = with_file id (record file { length = len }) (cut_if (nat_lt len file.length) id len t)
+resized_in id file len t = with_file id (record_resized len file) (cut_if (nat_lt len file.length) id len t)
 
 -- what is wanting for the file of a name, if there is one
 abbrev pub for_file : Option ℕ → (ℕ → Option Fault) → Option Fault

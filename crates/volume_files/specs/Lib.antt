@@ -2,6 +2,7 @@ pub mod Needs
 pub mod Writing
 pub mod Found
 pub mod Names
+pub mod Own
 pub mod Reads
 pub mod Stretches
 pub mod Lengths

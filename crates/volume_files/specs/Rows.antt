@@ -10,6 +10,10 @@ use Rattle.volume_files.specs.Insides.{Blocks}
 abbrev pub file_of : ℕ → FileRecord
 file_of length = record { length = length; map_row = 0; covers = 0 }
 
+-- a file of so many bytes, so many of which come from the map in a row
+abbrev pub based : ℕ → ℕ → ℕ → FileRecord
+based length map_row covers = record { length = length; map_row = map_row; covers = covers }
+
 -- a volume with these files and blocks that draws this id next
 abbrev pub small_volume : ℕ → List (List ℕ × ℕ) → List (ℕ × FileRecord) → Blocks → Inside
 small_volume next_id names files blocks = record (inside_at (typed_of []) []) {

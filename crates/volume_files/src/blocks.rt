@@ -22,6 +22,7 @@ ghost use Rattle.volume_tables.specs.Tables.{stopped, IsTables, Leaves};
 ghost use Rattle.volume_tables.specs.Spending.{Spends};
 ghost use Rattle.volume_files.specs.Insides.{blocks_written, with_blocks};
 ghost use Rattle.volume_files.specs.Needs.{missing};
+ghost use Rattle.volume_files.specs.Own.{AreOwnBeside};
 ghost use Rattle.volume_files.specs.Writing.{blocks_up_to, laid_from, AreAhead, AreExtentsSet, AreFilled, LosesNone, ReadsFirst};
 
 use crate::block::{BLOCK, write_block};
@@ -78,6 +79,7 @@ pub(crate) fn write_blocks<D: Disk>(
     requires reach { at + length bytes.now ≤ grown.length }
     requires most { grown.length ≤ 1073741824 }
     requires from_first { at < 4096 * index + 4096 }
+    requires own { AreOwnBeside (with_file file grown (tables_now tables.old)) file at (length bytes.now) }
     requires clusters { blocks_up_to (at + length bytes.now) index ≤ free_in (states_of tables.old) }
     requires room { staged_of tables.old + 55 * blocks_up_to (at + length bytes.now) index ≤ 65472 }
     requires fits { checkpoint_of tables.old +

@@ -10,13 +10,14 @@ ghost use Rattle.volume_inside.specs.Typed.{Typed};
 ghost use Rattle.volume_inside.specs.View.{file_cells};
 ghost use Rattle.volume_tables.specs.Tables.{tables_now, inside_now, disk_of, clusters_in, IsTables};
 ghost use Rattle.volume_tables.specs.Reads.{ReadsOnly};
+ghost use Rattle.volume_files.specs.Own.{AreOwn};
 
 use crate::stretches::{extent_at, read_stretch};
 use plain_volume::Fault;
 use vdisk::Disk;
 use volume_tables::Tables;
 
-/// Reads bytes of a file that is there, from a place in it on. After a refusal `out` may hold anything. A refusal stops
+/// Reads bytes of a file that is there, from a place in it on. None of them comes from a base. After a refusal `out` may hold anything. A refusal stops
 /// nothing.
 pub fn read_plain<D: Disk>(
     tables: &mut Tables<D>,
@@ -27,6 +28,7 @@ pub fn read_plain<D: Disk>(
     requires rules { RulesHold (clusters_in tables.old) (tables_now tables.old) }
     requires there { IsSome (find nat_cmp file (tables_now tables.old).files) }
     requires within { at + length out.old ≤ length (file_cells (inside_now tables.old) file) }
+    requires own { AreOwn (tables_now tables.old) file at (at + length out.old) }
     ensures bytes { (stored : Typed) → IsTables tables.old stored → OnOk result (out.new ≡
         bytes_of (take (length out.old) (drop at (file_cells (inside_now tables.old) file)))) }
     ensures inside { inside_now tables.new ≡ inside_now tables.old }

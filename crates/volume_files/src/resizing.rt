@@ -16,7 +16,7 @@ ghost use Rattle.volume_tables.specs.Wants.{IsReplied};
 ghost use Rattle.volume_files.specs.Found.{IsFileOf};
 ghost use Rattle.volume_files.specs.Insides.{inside_resized};
 ghost use Rattle.volume_files.specs.Needs.{length_needs, set_at_end};
-ghost use Rattle.volume_files.specs.Lengths.{cut_extent, end_cut, cut_at, resized_in, length_wants};
+ghost use Rattle.volume_files.specs.Lengths.{cut_extent, end_cut, cut_at, record_resized, resized_in, length_wants};
 
 use crate::block::BLOCK;
 use crate::lookup::find_file;
@@ -83,6 +83,19 @@ fn cut<D: Disk>(tables: &mut Tables<D>, id: u64, length: u64)
     tables.drop_extent((id, behind), Some((id + 1, 0)));
 }
 
+/// The record of a file with another length.
+fn record_of_length(file: FileRecord, length: u64) -> FileRecord
+    ensures { result ≡ record_resized length file }
+{
+    let covers = file.covers.min(length);
+    let map_row = if covers == 0 { 0 } else { file.map_row };
+    FileRecord {
+        length,
+        map_row,
+        covers,
+    }
+}
+
 /// Gives a file that is there another length.
 fn resize<D: Disk>(tables: &mut Tables<D>, id: u64, file: FileRecord, length: u64)
     requires id { id < 2 ^ 48 }
@@ -96,13 +109,13 @@ fn resize<D: Disk>(tables: &mut Tables<D>, id: u64, file: FileRecord, length: u6
     if length < file.length {
         cut(tables, id, length);
     }
-    tables.set_file(id, FileRecord { length, ..file }).unwrap();
+    tables.set_file(id, record_of_length(file, length)).unwrap();
 }
 
 /// Cuts the file of a name to a length, or extends it by zeros. It takes no memory.
 ///
-/// The bytes that are cut off do not come back when the file grows again. The record of the file is set also where the
-/// length is the same.
+/// The bytes that are cut off do not come back when the file grows again, also where they came from a base: that covers
+/// what is left, and goes where nothing of it is left. The record of the file is set also where the length is the same.
 pub fn set_length<D: Disk>(tables: &mut Tables<D>, name: &[u8], length: u64) -> Result<(), Fault>
     requires running { stopped tables.old ≡ false }
     requires sound { IsSound tables.old }

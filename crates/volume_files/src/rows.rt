@@ -2,8 +2,9 @@
 ghost use Rattle.std.specs.Prelude.{◌≡◌, ◌++◌, [], ◌∷◌, codes, replicate};
 ghost use Rattle.volume_files.specs.Insides.{inside_created, inside_renamed, inside_deleted};
 ghost use Rattle.volume_files.specs.Insides.{inside_resized, inside_written};
+ghost use Rattle.volume_files.specs.Lengths.{record_resized};
 ghost use Rattle.volume_files.specs.Needs.{touched};
-ghost use Rattle.volume_files.specs.Rows.{file_of, small_volume, only_a, two_files};
+ghost use Rattle.volume_files.specs.Rows.{based, file_of, small_volume, only_a, two_files};
 
 /// A new file has the next id, and its name stands in the order of the names.
 pub fn a_new_file_draws_one_id()
@@ -49,6 +50,14 @@ pub fn a_file_is_cut_to_its_end()
 pub fn a_longer_file_gets_no_block()
     ensures { inside_resized (codes "a") 8192 (only_a 5 (((1, 0), codes "hello") ∷ [])) ≡
         only_a 8192 (((1, 0), codes "hello") ∷ []) }
+{}
+
+/// A base covers no more than is left of its file, also once that is longer again, and goes where it covers nothing.
+pub fn a_base_is_cut_with_its_file()
+    ensures shorter { record_resized 3 (based 10 7 8) ≡ based 3 7 3 }
+    ensures behind_it { record_resized 9 (based 10 7 8) ≡ based 9 7 8 }
+    ensures longer { record_resized 20 (based 3 7 3) ≡ based 20 7 3 }
+    ensures to_nothing { record_resized 0 (based 10 7 8) ≡ file_of 0 }
 {}
 
 /// Bytes take the place of others, and the rest of their block stays.

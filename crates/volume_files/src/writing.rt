@@ -20,6 +20,7 @@ ghost use Rattle.volume_tables.specs.Sound.{IsSound, IsKept, Endures, Spares};
 ghost use Rattle.volume_tables.specs.Spending.{Spends};
 ghost use Rattle.volume_tables.specs.Wants.{wanting, IsWanting, IsRepliedOrMemory};
 ghost use Rattle.volume_files.specs.Insides.{id_written};
+ghost use Rattle.volume_files.specs.Own.{AreOwnAround, AreOwnBeside};
 ghost use Rattle.volume_files.specs.Needs.{missing, first_touched, touched, touched_at, write_needs, write_bytes};
 ghost use Rattle.volume_files.specs.Writing.{AreWritten, IsWritten, IsWritePending, ReadsFirst, write_wants};
 
@@ -92,6 +93,7 @@ fn write_with_room<D: Disk>(
     requires some { 0 < length bytes.now }
     requires short { length bytes.now ≤ 1048576 }
     requires within { at + length bytes.now ≤ 1073741824 }
+    requires own { AreOwnBeside (tables_now tables.old) file at (length bytes.now) }
     requires room { IsRoomFor tables.old (38 + 55 * touched at (length bytes.now)) (touched at (length bytes.now)) }
     requires fits { checkpoint_of tables.old +
         24 * missing (tables_now tables.old) file (first_touched at) (touched at (length bytes.now))
@@ -128,7 +130,7 @@ fn write_with_room<D: Disk>(
 }
 
 /// Puts bytes at a place of a file that is there, with zeros up to it where the file is shorter; no bytes change
-/// nothing, and want nothing. Each block that is touched gets a new cluster: named bytes are never overwritten. After a
+/// nothing, and want nothing. The cells beside them, in the blocks that they touch, come from no base. Each block that is touched gets a new cluster: named bytes are never overwritten. After a
 /// refusal the tables are what they were. In the clauses `v` is a volume and `name` a name in it whose file has these
 /// cells.
 pub fn write_plain<D: Disk>(
@@ -140,6 +142,7 @@ pub fn write_plain<D: Disk>(
     requires running { stopped tables.old ≡ false }
     requires sound { IsSound tables.old }
     requires there { IsSome (find nat_cmp file (tables_now tables.old).files) }
+    requires own { AreOwnAround (tables_now tables.old) file at bytes.now }
     ensures reply { (name : List ℕ) (v : Volume) → IsRepliedOrMemory
         (write name at bytes.now v (file_cells (inside_now tables.old) file))
         (write_wants tables.old file at bytes.now) (disk_of tables.old).faults (disk_of tables.new).faults

@@ -15,7 +15,7 @@ use Rattle.volume_files.specs.Writing.{without_first, AreAhead, AreFilled}
 use Rattle.volume_files.proofs.Ahead.{free_still, first_free, rest_free, first_low, first_whole}
 use Rattle.volume_files.proofs.BlockSet.{readable, rules_same, rules_block, inside_set}
 use Rattle.volume_files.proofs.Insides.{block_is_written}
-use Rattle.volume_files.proofs.Touched.{find-blocks}
+use Rattle.volume_files.proofs.Owned.{find-blocks}
 use Rattle.volume_files.proofs.block.write_block.Goals as goal
 
 pub write_ahead-requires-clause-readable : goal.write_ahead-requires-clause-readable

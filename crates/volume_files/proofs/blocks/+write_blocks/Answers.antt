@@ -15,7 +15,8 @@ use Rattle.volume_files.specs.Writing.{blocks_up_to}
 use Rattle.volume_files.proofs.Extents.{found_put}
 use Rattle.volume_files.proofs.Setting.{sorted_now, held_now}
 use Rattle.volume_files.proofs.States.{places_differ, used_is_not_deferred}
-use Rattle.volume_files.proofs.Touched.{fits_next, extents_then, cells_then, put_covers, cell_apart}
+use Rattle.volume_files.proofs.Touched.{fits_next, extents_then, cells_then, cell_apart}
+use Rattle.volume_files.proofs.Owned.{own_beside, own_with_extent}
 use Rattle.volume_files.proofs.Spent.{spends_none, spends_then, spends_block}
 use Rattle.volume_files.proofs.Insides.{blocks_then}
 use Rattle.volume_files.proofs.ReadFirst.{reads_later}
@@ -50,14 +51,19 @@ write_blocks-requires g t c κs within =
                   (
                     omega (arith, c.requires.from_first),
                     (
-                      omega (arith, fewer, w.free, c.requires.clusters),
+                      own_with_extent (tables_now a) c.args.file c.args.at (length c.args.bytes.now) c.args.grown
+                          (c.args.file, c.args.index) c.in_ok-written.written.extent (tables_now u) w.ok
+                          c.requires.own,
                       (
-                        omega (arith, fewer, w.staged, c.requires.room),
+                        omega (arith, fewer, w.free, c.requires.clusters),
                         (
-                          subst (λ (n : ℕ). checkpoint_of u + 24 * missing (tables_now u) c.args.file
-                              (c.args.index + 1) (blocks_up_to to (c.args.index + 1)) ≤ half_bytes n)
-                              (sym w.leaves.clusters) fits,
-                          (w.free_ahead, w.filled),
+                          omega (arith, fewer, w.staged, c.requires.room),
+                          (
+                            subst (λ (n : ℕ). checkpoint_of u + 24 * missing (tables_now u) c.args.file
+                                (c.args.index + 1) (blocks_up_to to (c.args.index + 1)) ≤ half_bytes n)
+                                (sym w.leaves.clusters) fits,
+                            (w.free_ahead, w.filled),
+                          ),
                         ),
                       ),
                     ),
@@ -113,7 +119,9 @@ returns-in-Ok-clause-cells g t c stored is ahead p low =
     (c.in_ok-written.ensures.ahead stored is ahead) p low
     ∙ cells_then c.args.file c.args.index c.args.at c.args.bytes.now c.args.grown c.get_extent-was.result
     (tables_now a) (disk_of a).image (block_of e (disk_of u).image) (inside_now u)
-    (put_covers a.clusters c.args.file c.args.grown (tables_now a) c.requires.rules) (sym c.get_extent-was.ensures)
+    (own_beside (tables_now a) c.args.file c.args.at (length c.args.bytes.now) c.args.grown c.requires.own c.args.index
+    c.get_extent-was.result (sym c.get_extent-was.ensures) c.requires.from_first (omega arith))
+    (sym c.get_extent-was.ensures)
     c.in_ok-written.ensures.inside (c.in_ok-written.ensures.written stored is ahead) p low
 
 pub returns-in-Ok-clause-leaves : goal.returns-in-Ok-clause-leaves

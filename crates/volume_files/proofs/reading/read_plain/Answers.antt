@@ -88,5 +88,5 @@ returns-clause-bytes g c stored is =
     let whole : c.loop-done.done ≡ length c.args.out.now =
     omega (arith, c.loop-done.invariant.within, c.loop-done-test.false, c.loop-done.auto.out) in
     file_read (clusters_in t) (tables_now t) (disk_of t).image c.requires.rules c.args.file c.args.at
-    (length c.args.out.now) c.requires.within c.loop-done.out c.loop-done.auto.out
+    (length c.args.out.now) c.requires.within c.requires.own c.loop-done.out c.loop-done.auto.out
     (λ j low. c.loop-done.invariant.bytes stored is j (omega (arith, low, whole)))

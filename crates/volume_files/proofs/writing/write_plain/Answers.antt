@@ -9,10 +9,17 @@ use Rattle.volume_tables.proofs.Endured.{endures_leaves}
 use Rattle.volume_files.specs.Needs.{touched_at, write_needs, write_bytes}
 use Rattle.volume_files.proofs.Pending.{neither_worn, pending_after, write_pending, write_refused}
 use Rattle.volume_files.specs.Writing.{write_wants}
-use Rattle.volume_files.proofs.WriteReplies.{done, file_is_whole, reply_there, wants_some, still_kept}
+use Rattle.volume_files.proofs.WriteReplies.{done, beside_is_whole, reply_there, wants_some, still_kept}
+use Rattle.volume_files.proofs.Owned.{own_some}
 use Rattle.volume_files.proofs.Spent.{spends_none, spends_written}
 use Rattle.volume_files.specs.Insides.{id_written}
 use Rattle.volume_files.proofs.writing.write_plain.Goals as goal
+
+pub write_with_room-requires-clause-own : goal.write_with_room-requires-clause-own
+write_with_room-requires-clause-own g c =
+    let some : 0 < length c.args.bytes.now = search rules in
+    own_some (tables_now c.args.tables.now) (tables_now c.make_room_for_write.new.tables) c.args.file c.args.at
+    c.args.bytes.now c.make_room_for_write.ensures.now some c.requires.own
 
 pub returns-clause-reply : goal.returns-clause-reply
 returns-clause-reply g c name v =
@@ -20,7 +27,7 @@ returns-clause-reply g c name v =
     let bytes = c.args.bytes.now in
     let cells = file_cells (inside_now t) c.args.file in
     let some : 0 < length bytes = search rules in
-    let whole = file_is_whole t.clusters (tables_now t) (disk_of t).image c.args.file c.requires.sound.rules in
+    let whole = beside_is_whole (tables_now t) (disk_of t).image c.args.file c.args.at bytes c.requires.own in
     reply_there (write name c.args.at bytes v cells) (with_file name (overwritten c.args.at bytes cells) v)
     (write_wants t c.args.file c.args.at bytes) (disk_of t).faults (disk_of c.make_room_for_write.new.tables).faults
     (disk_of c.write_with_room.new.tables).faults

@@ -1,4 +1,4 @@
-use Rattle.std.proofs.Common.{◌≡◌, ◌+◌, ◌/◌, ℕ, List, length, sym, ◌∙◌, ap, subst, arith}
+use Rattle.std.proofs.Common.{◌≡◌, ◌+◌, ◌/◌, ℕ, List, length, refl, sym, ◌∙◌, ap, subst, arith}
 use Rattle.std.specs.Prelude.{Option, IsSome}
 use Rattle.std.specs.Ordering.{nat_cmp}
 use Rattle.std.specs.FinMap.{find}
@@ -13,6 +13,7 @@ use Rattle.volume_tables.specs.Tables.{tables_now, states_of, disk_of}
 use Rattle.volume_tables.proofs.Leaving.{leaves_then}
 use Rattle.volume_files.specs.Needs.{touched}
 use Rattle.volume_files.specs.Writing.{blocks_up_to}
+use Rattle.volume_files.proofs.Owned.{own_with_file}
 use Rattle.volume_files.proofs.Setting.{held_now, on_ok_there}
 use Rattle.volume_files.proofs.Written.{rules_grown, grown_short, cells_written, others_written, on_err_any}
 use Rattle.volume_files.proofs.Spent.{spends_none, spends_then, spends_record}
@@ -38,6 +39,13 @@ write_blocks-requires-clause-most g c =
     let short = grown_short t.clusters (tables_now t) c.requires.sound.rules c.args.file to was found
     c.requires.within in
     omega (arith, short, c.max.ensures)
+
+pub write_blocks-requires-clause-own : goal.write_blocks-requires-clause-own
+write_blocks-requires-clause-own g c =
+    let t = c.args.tables.now in
+    let was = c.unwrap-grown.result in
+    own_with_file (tables_now t) c.args.file c.args.at (length c.args.bytes.now) (record was { length = c.max.result })
+    was (sym c.get_file.ensures ∙ c.unwrap-grown.ensures) refl c.requires.own
 
 pub returns-in_err-write_blocks-clause-err_inside : goal.returns-in_err-write_blocks-clause-err_inside
 returns-in_err-write_blocks-clause-err_inside g c =
