@@ -21,7 +21,7 @@ use Rattle.table_records.specs.declared.records.FileRecord.{FileRecord}
 use Rattle.volume_inside.specs.Laws.{IsWhole}
 use Rattle.volume_inside.specs.View.{file_cells}
 use Rattle.volume_inside.proofs.Views.{view_whole}
-use Rattle.volume_tables.specs.Tables.{tables_now, inside_now, view_now, disk_of, clusters_in}
+use Rattle.volume_tables.specs.Tables.{tables_now, inside_now, view_now, disk_of}
 use Rattle.volume_tables.specs.declared.tables.Tables.{Tables}
 use Rattle.volume_tables.specs.Sound.{IsSound}
 use Rattle.volume_tables.specs.Wants.{reply_of, is_late, IsReplied}
@@ -65,7 +65,7 @@ module _ {D : Type 0} {d : Ghosts D} (t : Tables D d) (sound : IsSound t) (name 
     (is : IsFileOf t name id file) where
   pub file_is_whole : IsWhole (file_cells (inside_now t) id)
   file_is_whole = whole_found name (view_now t) (file_cells (inside_now t) id)
-      (view_whole (clusters_in t) (tables_now t) (disk_of t).image sound.rules) is.cells
+      (view_whole (tables_now t) (disk_of t).image sound.rules.bare) is.cells
 
   pub stat_answers : plain (view_now t) (Stat name) ≡ Ok (reply.Length file.length, view_now t)
   stat_answers =

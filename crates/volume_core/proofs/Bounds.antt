@@ -1,5 +1,5 @@
 -- What is spent where a resource is wanting.
-use Rattle.std.specs.Prelude.{◌≡◌, ◌≢◌, ◌≤◌, ◌<◌, ◌+◌, ◌-◌, ◌*◌, ◌^◌, ◌&&◌, ◌||◌, ◌==◌, ◌++◌, ℕ, Bool, true}
+use Rattle.std.specs.Prelude.{◌≡◌, ◌≢◌, ◌≤◌, ◌<◌, ◌+◌, ◌-◌, ◌*◌, ◌^◌, ◌&&◌, ◌||◌, ◌==◌, ℕ, Bool, true}
 use Rattle.std.specs.Prelude.{false, not, cond, nat_eq, nat_lt, T}
 use Rattle.std.specs.Prelude.{List, [], ◌∷◌, length, Option, Some, None, refl}
 use Rattle.std.specs.List.{filter}
@@ -26,7 +26,7 @@ use Rattle.groundwork.proofs.Orders.{is_less}
 use Rattle.groundwork.proofs.Bools.{first_true, second_true}
 use Rattle.table_records.specs.Next.{sorted_typed}
 use Rattle.table_records.specs.Orders.{some_same}
-use Rattle.table_records.specs.Tables.{volume_codec, name_codec, file_codec, extent_codec, settings_codec, result_codec}
+use Rattle.table_records.specs.Tables.{volume_codec, name_codec, file_codec, settings_codec, result_codec}
 use Rattle.table_records.specs.declared.jobs.JobKind.{JobKind}
 use Rattle.table_records.specs.declared.records.Extent.{Extent}
 use Rattle.table_records.specs.declared.records.FileRecord.{FileRecord}

@@ -4,6 +4,7 @@ pub mod Causes
 pub mod Flushed
 pub mod Opened
 pub mod Answered
+pub mod Bare
 pub mod Listed
 pub mod Read
 pub mod Hashed

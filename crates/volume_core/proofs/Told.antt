@@ -1,5 +1,5 @@
 -- What is wanting for a call is told by the state of its volume.
-use Rattle.std.specs.Prelude.{◌≡◌, ◌+◌, ◌-◌, ◌*◌, ◌/◌, ◌%◌, ◌&&◌, ◌++◌, ℕ, Bool, true, false, not, cond, nat_eq}
+use Rattle.std.specs.Prelude.{◌≡◌, ◌+◌, ◌-◌, ◌*◌, ◌/◌, ◌%◌, ◌&&◌, ℕ, Bool, true, false, not, cond, nat_eq}
 use Rattle.std.specs.Prelude.{nat_lt, List, [], ◌∷◌}
 use Rattle.std.specs.Prelude.{zero, suc, length, Option, Some, None, IsSome, refl}
 use Rattle.std.specs.FinMap.{find}

@@ -6,6 +6,7 @@ use Rattle.vdisk.specs.declared.disk.Disk.{Ghosts}
 use Rattle.table_records.specs.declared.jobs.JobKind.{JobKind}
 use Rattle.table_records.specs.declared.records.VolumeRecord.{VolumeRecord}
 use Rattle.table_records.specs.declared.records.FileRecord.{FileRecord}
+use Rattle.table_records.specs.declared.chunk_records.Row.{Row}
 use Rattle.table_records.specs.declared.records.Extent.{Extent}
 use Rattle.table_records.specs.declared.records.ResultRecord.{ResultRecord}
 use Rattle.table_records.specs.declared.settings.Settings.{Settings}
@@ -13,8 +14,9 @@ use Rattle.volume_inside.specs.Typed.{Typed, FileBlock}
 use Rattle.volume_inside.specs.RuleProps.{each_prop, chunks_prop}
 use Rattle.volume_inside.specs.Lists.{IsOut, IsOnce}
 use Rattle.volume_inside.specs.Rules.{IsVolumeRecord, AreSettings, IsResultRecord, RecordsHold, NameHolds}
-use Rattle.volume_inside.specs.Rules.{IsNamedOnce, NamesHold, FileHolds, FilesHold, LiesIn, ExtentHolds, ExtentsHold}
-use Rattle.volume_inside.specs.Rules.{RulesHold}
+use Rattle.volume_inside.specs.ChunkRules.{CoverHolds, HasNoBase, MapRowHolds}
+use Rattle.volume_inside.specs.Rules.{IsNamedOnce, NamesHold, FileHolds, FilesHold, MapRowsHold, AreBare, LiesIn, ExtentHolds}
+use Rattle.volume_inside.specs.Rules.{ExtentsHold, RulesHold}
 use Rattle.volume_tables.specs.Sound.{IsSound}
 use Rattle.volume_tables.specs.declared.tables.Tables.{Tables}
 
@@ -44,11 +46,26 @@ names_prop names files = Prim.hlevel (
   each_prop (IsNamedOnce names) (once_named_prop names) files,
 )
 
+cover_prop : (file : FileRecord) → IsProp (CoverHolds file)
+cover_prop file = Prim.hlevel props
+
 file_prop : (next id : ℕ) (file : FileRecord) → IsProp (FileHolds next id file)
-file_prop next id file = Prim.hlevel props
+file_prop next id file = Prim.hlevel (props, cover_prop file)
 
 files_prop : (next : ℕ) (files : List (ℕ × FileRecord)) → IsProp (FilesHold next files)
 files_prop next files = each_prop (FileHolds next) (file_prop next) files
+
+map_row_prop : (rows : List (ℕ × Row)) (id : ℕ) (file : FileRecord) → IsProp (MapRowHolds rows id file)
+map_row_prop rows id file = Prim.hlevel props
+
+map_rows_prop : (rows : List (ℕ × Row)) (files : List (ℕ × FileRecord)) → IsProp (MapRowsHold rows files)
+map_rows_prop rows files = each_prop (MapRowHolds rows) (map_row_prop rows) files
+
+no_base_prop : (id : ℕ) (file : FileRecord) → IsProp (HasNoBase id file)
+no_base_prop id file = Prim.hlevel props
+
+bare_prop : (files : List (ℕ × FileRecord)) → IsProp (AreBare files)
+bare_prop files = each_prop HasNoBase no_base_prop files
 
 lies_prop : (k : FileBlock) (e : Extent) (file : Option FileRecord) → IsProp (LiesIn k e file)
 lies_prop k e None = ⊥_prop
@@ -73,7 +90,17 @@ once_prop [] = Unit-prop
 once_prop (x ∷ xs) = ×_prop (out_prop x xs) (once_prop xs)
 
 rules_prop : (n : ℕ) (t : Typed) → IsProp (RulesHold n t)
-rules_prop n t = Prim.hlevel (props, records_prop, names_prop, files_prop, extents_prop, chunks_prop, once_prop)
+rules_prop n t = Prim.hlevel (
+  props,
+  records_prop,
+  names_prop,
+  files_prop,
+  map_rows_prop,
+  bare_prop,
+  extents_prop,
+  chunks_prop,
+  once_prop,
+)
 
 module _ {D : Type 0} {d : Ghosts D} where
   pub sound_prop : (t : Tables D d) → IsProp (IsSound t)

@@ -1,12 +1,12 @@
 -- Cells that come from no base.
-use Rattle.std.specs.Prelude.{◌≡◌, ◌≤◌, ◌<◌, ◌+◌, ◌-◌, ◌*◌, ◌/◌, ◌%◌, ◌&&◌, ◌==◌, ℕ, Bool, true, false, cond, nat_le, nat_lt}
-use Rattle.std.specs.Prelude.{List, [], ◌∷◌, length, Option, Some, None, IsSome, is_some, refl}
+use Rattle.std.specs.Prelude.{◌≡◌, ◌≤◌, ◌<◌, ◌+◌, ◌-◌, ◌*◌, ◌/◌, ◌%◌, ℕ, Bool, true, false, cond}
+use Rattle.std.specs.Prelude.{List, [], ◌∷◌, length, Option, Some, None, IsSome, refl}
 use Rattle.std.proofs.Common.{sym, ◌∙◌, ap, subst, inl, inr, arith}
 use Rattle.std.proofs.lemmas.Bool.{cases_lt}
 use Rattle.std.proofs.lemmas.Bool.Decides.{nat_tests}
 use Rattle.std.specs.Option.{option_map}
 use Rattle.std.specs.Ordering.{nat_cmp, eq_by_cmp}
-use Rattle.std.specs.FinMap.{find, put}
+use Rattle.std.specs.FinMap.{find}
 use Rattle.std.specs.FinMap.Entries.{find-put}
 use Rattle.plain_volume.specs.Volume.{Byte, is_beside, is_within}
 use Rattle.table_records.specs.Keys.{pair_cmp}

@@ -1,8 +1,8 @@
 -- Bytes of a file, read piece by piece.
-use Rattle.std.specs.Prelude.{◌≡◌, ◌≤◌, ◌<◌, ◌+◌, ◌*◌, ◌-◌, ◌/◌, ◌%◌, ℕ, suc, zero, List, [], ◌∷◌, ◌++◌, length, take, drop, replicate, get_or, true, false, cond, Option, Some, None, IfSome, IsSomeAnd, refl}
+use Rattle.std.specs.Prelude.{◌≡◌, ◌≤◌, ◌<◌, ◌+◌, ◌*◌, ◌-◌, ◌/◌, ◌%◌, ℕ, suc, zero, List, [], ◌∷◌, ◌++◌, length, take, drop, replicate, get_or, Option, Some, None, IfSome, IsSomeAnd, refl}
 use Rattle.std.proofs.Common.{sym, ◌∙◌, ap, inl, inr, arith, length-take, length-drop}
 use Rattle.std.specs.Option.{option_map}
-use Rattle.std.specs.Ordering.{nat_cmp, eq_by_cmp}
+use Rattle.std.specs.Ordering.{nat_cmp}
 use Rattle.std.specs.FinMap.{find, nat_cmp-IsAntisymmetric}
 use Rattle.std.proofs.lemmas.Bool.{cases_lt}
 use Rattle.std.proofs.lemmas.Map.Lookups.{exact_pairs, exact_unsigned}
@@ -15,9 +15,9 @@ use Rattle.table_records.specs.declared.records.FileRecord.{FileRecord}
 use Rattle.table_records.specs.declared.records.Extent.{Extent}
 use Rattle.volume_inside.specs.Typed.{Typed, FileBlock}
 use Rattle.volume_inside.specs.Entries.{each_found}
-use Rattle.volume_inside.specs.Inside.{Inside, inside_at, block_of, blocks_of, cluster_bytes}
+use Rattle.volume_inside.specs.Inside.{Inside, inside_at, block_of, cluster_bytes}
 use Rattle.volume_inside.specs.Rules.{next_id_of, FileHolds, ExtentHolds, ExtentsHold, RulesHold}
-use Rattle.volume_inside.specs.View.{cell, cell_in, cells, cells_or_none, file_cells}
+use Rattle.volume_inside.specs.View.{cell, cells, cells_or_none, file_cells}
 use Rattle.volume_files.specs.Own.{AreOwn}
 use Rattle.volume_files.specs.Reads.{byte_in, byte_at}
 use Rattle.volume_files.specs.Stretches.{HasBytes}

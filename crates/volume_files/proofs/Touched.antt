@@ -1,32 +1,28 @@
 -- The blocks of a file that bytes touch, one after another.
 use Rattle.std.specs.Prelude.{◌≡◌, ◌≤◌, ◌<◌, ◌+◌, ◌-◌, ◌*◌, ◌/◌, ◌%◌, ◌&&◌, ℕ, zero, suc, Bool, true, false}
-use Rattle.std.specs.Prelude.{cond, nat_le, List, [], ◌∷◌, length, get_or, Option, Some, None, IsSome, if◌then◌else◌}
+use Rattle.std.specs.Prelude.{nat_le, List, [], length, get_or, Option, Some, None, IsSome, if◌then◌else◌}
 use Rattle.std.specs.Prelude.{refl}
 use Rattle.std.proofs.Common.{sym, ◌∙◌, ap, subst, inl, inr, arith}
 use Rattle.std.proofs.lemmas.Bool.{cases_eq}
 use Rattle.std.proofs.lemmas.Bool.Decides.{nat_tests}
 use Rattle.std.proofs.lemmas.List.{get_or_past}
-use Rattle.std.specs.Ordering.{nat_cmp, eq_by_cmp}
 use Rattle.std.specs.Option.{option_map}
-use Rattle.std.specs.FinMap.{find, put, nat_cmp-IsAntisymmetric}
+use Rattle.std.specs.FinMap.{find, put}
 use Rattle.plain_volume.specs.Volume.{Byte, is_within}
 use Rattle.table_records.specs.Keys.{pair_cmp}
 use Rattle.table_records.specs.declared.records.Extent.{Extent}
 use Rattle.table_records.specs.declared.records.FileRecord.{FileRecord}
 use Rattle.volume_inside.specs.Bases.{base_cell, cell_behind}
-use Rattle.volume_inside.specs.Entries.{each_found}
-use Rattle.volume_inside.specs.Inside.{Inside, inside_at, block_of, blocks_of}
+use Rattle.volume_inside.specs.Inside.{Inside, inside_at, block_of}
 use Rattle.volume_inside.specs.Typed.{Typed, FileBlock}
-use Rattle.volume_inside.specs.Changes.{with_extent, with_file, with_block}
+use Rattle.volume_inside.specs.Changes.{with_extent, with_block}
 use Rattle.volume_inside.specs.View.{cell, cell_in}
-use Rattle.volume_inside.specs.Rules.{next_id_of, RulesHold, FileHolds}
 use Rattle.volume_inside.proofs.Blocks.{cell_of_block, cell_of_another_block, cell_of_another_file}
 use Rattle.volume_tables.specs.Tables.{new_bytes}
 use Rattle.volume_files.specs.Needs.{missing, one_if_none}
 use Rattle.volume_files.specs.Writing.{laid, laid_from, named_bytes, blocks_up_to, AreExtentsSet}
 use Rattle.volume_files.proofs.Extents.{found_put, found_beside}
 use Rattle.volume_files.proofs.Owned.{find-blocks, not_covered}
-use Rattle.volume_files.proofs.BlockSet.{found_file}
 
 -- ---- extents that are missing
 

@@ -1,6 +1,6 @@
 -- What the plain machine answers to a write into a file that has lost no cell.
 use Rattle.std.specs.Prelude.{◌≡◌, ◌⊎◌, ◌≤◌, ◌<◌, ◌+◌, ℕ, zero, suc, Bool, true, false, if◌then◌else◌, List, [], ◌∷◌, length, map}
-use Rattle.std.specs.Prelude.{get_or, Option, Some, None, Result, Ok, Err, IsTrue, OnErr, IsErrOf, refl}
+use Rattle.std.specs.Prelude.{Option, Some, None, Result, Ok, Err, IsTrue, OnErr, IsErrOf, refl}
 use Rattle.std.proofs.Common.{◌∙◌, ap, subst, inl, inr, ⊎_elim, arith, lt-ltb, le-ltb}
 use Rattle.std.specs.List.{range_with_len}
 use Rattle.std.specs.Ordering.{nat_cmp}

@@ -17,8 +17,8 @@ use plain_volume::Fault;
 use vdisk::Disk;
 use volume_tables::Tables;
 
-/// Reads bytes of a file that is there, from a place in it on. None of them comes from a base. After a refusal `out` may hold anything. A refusal stops
-/// nothing.
+/// Reads bytes of a file that is there, from a place in it on, of which none comes from a base. After a refusal `out`
+/// may hold anything. A refusal stops nothing.
 pub fn read_plain<D: Disk>(
     tables: &mut Tables<D>,
     file: u64,

@@ -52,7 +52,7 @@ pub fn a_longer_file_gets_no_block()
         only_a 8192 (((1, 0), codes "hello") ∷ []) }
 {}
 
-/// A base covers no more than is left of its file, also once that is longer again, and goes where it covers nothing.
+/// A base covers no more than is left of its file, also once that is longer again, and goes where that is nothing.
 pub fn a_base_is_cut_with_its_file()
     ensures shorter { record_resized 3 (based 10 7 8) ≡ based 3 7 3 }
     ensures behind_it { record_resized 9 (based 10 7 8) ≡ based 9 7 8 }

@@ -130,9 +130,9 @@ fn write_with_room<D: Disk>(
 }
 
 /// Puts bytes at a place of a file that is there, with zeros up to it where the file is shorter; no bytes change
-/// nothing, and want nothing. The cells beside them, in the blocks that they touch, come from no base. Each block that is touched gets a new cluster: named bytes are never overwritten. After a
-/// refusal the tables are what they were. In the clauses `v` is a volume and `name` a name in it whose file has these
-/// cells.
+/// nothing, and want nothing. No cell beside them in the blocks that they touch comes from a base; cells under them may.
+/// Each block that is touched gets a new cluster: named bytes are never overwritten. After a refusal the tables are what
+/// they were. In the clauses `v` is a volume and `name` a name in it whose file has these cells.
 pub fn write_plain<D: Disk>(
     tables: &mut Tables<D>,
     file: u64,

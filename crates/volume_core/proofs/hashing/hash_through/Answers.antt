@@ -1,13 +1,19 @@
-use Rattle.std.proofs.Common.{◌≡◌, ◌≤◌, ◌++◌, ℕ, List, length, take, drop, arith, ◌∙◌, ap, sym, subst, take_all}
+use Rattle.std.proofs.Common.{◌≡◌, ◌≤◌, ◌+◌, ◌++◌, ℕ, List, length, take, drop, arith, ◌∙◌, ap, sym, subst, take_all}
 use Rattle.std.proofs.Common.{length-take}
 use Rattle.sha2.specs.Hashers.{Holds256}
 use Rattle.sha2.specs.Sha256.{sha256}
 use Rattle.plain_volume.specs.Volume.{Cell, bytes_of}
 use Rattle.volume_inside.specs.View.{file_cells}
-use Rattle.volume_tables.specs.Tables.{inside_now}
+use Rattle.volume_tables.specs.Tables.{tables_now, inside_now}
 use Rattle.volume_tables.proofs.Rereads.{reads_then, same_inside}
+use Rattle.volume_core.proofs.Bare.{bare_read}
 use Rattle.volume_core.proofs.Hashed.{piece_behind}
 use Rattle.volume_core.proofs.hashing.hash_through.Goals as goal
+
+pub read_plain-requires-clause-own : goal.read_plain-requires-clause-own
+read_plain-requires-clause-own g c =
+    bare_read (tables_now c.args.tables.now) c.requires.rules.bare c.args.file (tables_now c.loop-at.tables)
+    c.loop-at.invariant.reads.now c.loop-at.at (c.loop-at.at + length (take c.min-count.result c.loop-at.buffer))
 
 pub returns-in_err-read_plain-clause-reads : goal.returns-in_err-read_plain-clause-reads
 returns-in_err-read_plain-clause-reads g c =

@@ -1,4 +1,4 @@
-use Rattle.std.proofs.Common.{◌≡◌, ◌≤◌, ◌-◌, length, take}
+use Rattle.std.proofs.Common.{◌≤◌, ◌-◌, take}
 use Rattle.sha2.specs.Hashers.{Holds256}
 use Rattle.plain_volume.specs.Volume.{bytes_of}
 use Rattle.volume_inside.specs.Typed.{Typed}

@@ -1,14 +1,21 @@
 use Rattle.std.proofs.Common.{rules, ◌≡◌, ◌+◌, ◌≤◌, length, Err, refl, arith}
 use Rattle.plain_volume.specs.Step.{read}
 use Rattle.plain_volume.specs.declared.call.Call.TheVariants.{Read}
-use Rattle.volume_tables.specs.Tables.{disk_of, view_now}
+use Rattle.volume_tables.specs.Tables.{tables_now, disk_of, view_now}
 use Rattle.volume_tables.proofs.Endured.{endures_start}
 use Rattle.volume_core.proofs.Answered.{read_replied}
+use Rattle.volume_core.proofs.Bare.{bare_read}
 use Rattle.volume_core.proofs.Causes.{refused_not_failed}
 use Rattle.volume_core.proofs.Read.{read_endures}
 use Rattle.volume_core.proofs.Adding.{nothing_adds, reads_add}
 use Rattle.volume_core.proofs.Moving.{reads_move, stays_move}
 use Rattle.volume_core.proofs.volume.Volume.read_into.Goals as goal
+
+pub read_plain-requires-clause-own : goal.read_plain-requires-clause-own
+read_plain-requires-clause-own g c =
+    let t = c.args.self.now.tables in
+    bare_read (tables_now t) c.args.self.now.sound.rules.bare c.in_ok-file.file (tables_now t) refl c.args.at
+    (c.args.at + length c.args.out.now)
 
 pub returns-in_err-file-clause-failed : goal.returns-in_err-file-clause-failed
 returns-in_err-file-clause-failed g c failed =

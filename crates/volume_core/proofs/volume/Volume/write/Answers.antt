@@ -6,7 +6,7 @@ use Rattle.plain_volume.specs.declared.call.Call.TheVariants.{Write}
 use Rattle.plain_volume.specs.declared.call.Fault.{Fault}
 use Rattle.plain_volume.specs.declared.call.Fault.TheVariants.{BadName}
 use Rattle.plain_volume.specs.Volume.{cells_of, is_lawful}
-use Rattle.volume_tables.specs.Tables.{disk_of, inside_now, view_now}
+use Rattle.volume_tables.specs.Tables.{tables_now, disk_of, inside_now, view_now}
 use Rattle.volume_tables.specs.Wants.{IsRepliedOrMemory}
 use Rattle.volume_tables.proofs.Endured.{endures_start}
 use Rattle.volume_core.specs.Wants.{wants_of}
@@ -15,6 +15,7 @@ use Rattle.volume_core.specs.Moves.{inside_after, state_after}
 use Rattle.volume_core.specs.States.{state_of}
 use Rattle.volume_inside.specs.View.{file_cells}
 use Rattle.volume_files.specs.Writing.{write_wants}
+use Rattle.volume_core.proofs.Bare.{bare_write}
 use Rattle.volume_core.proofs.Causes.{refused_not_failed}
 use Rattle.volume_core.proofs.Wanting.{write_may, write_id_may}
 use Rattle.volume_core.proofs.Written.{unfound_replied, write_replied, write_left}
@@ -24,6 +25,11 @@ use Rattle.volume_core.proofs.Answered.{file_is_whole}
 use Rattle.volume_core.proofs.Unlost.{write_undamaged, write_unworn}
 use Rattle.volume_core.proofs.Waiting.{write_waits_by}
 use Rattle.volume_core.proofs.volume.Volume.write.Goals as goal
+
+pub write_plain-requires-clause-own : goal.write_plain-requires-clause-own
+write_plain-requires-clause-own g c =
+    let t = c.args.self.now.tables in
+    bare_write (tables_now t) c.args.self.now.sound.rules.bare c.in_ok-file.file c.args.at c.args.bytes.now
 
 pub returns-in_err-file-clause-failed : goal.returns-in_err-file-clause-failed
 returns-in_err-file-clause-failed g c failed =
