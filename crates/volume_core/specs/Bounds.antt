@@ -1,5 +1,6 @@
 -- What a volume has spent, what a call adds to it, and what is spent where nothing is left for a call.
 use Rattle.std.specs.Prelude.{◌≡◌, ◌≤◌, ◌<◌, ◌+◌, ◌-◌, ◌*◌, ◌^◌, ℕ, false, true, [], ◌∷◌, length}
+use Rattle.groundwork.specs.declared.limits.TheConstants.{LAST_ID}
 use Rattle.vdisk.specs.declared.disk.Disk.{Ghosts}
 use Rattle.meta_log.specs.Meta.{last_epoch}
 use Rattle.plain_volume.specs.Volume.{Volume}
@@ -100,7 +101,7 @@ module _ {D : Type 0} {d : Ghosts D} where
   -- the same of a mounted volume that has spent so much: ids and epochs are used up after 2^48 - 2 calls that change,
   -- and no sooner
   abbrev pub IsSpent : Mounted D d → ℕ → ℕ → Call → Fault → Type 0
-  IsSpent v b i = IsSpentIn (2 ^ 48 - 2 ≤ i) (clusters_in v) (view_now v) b
+  IsSpent v b i = IsSpentIn (LAST_ID - 1 ≤ i) (clusters_in v) (view_now v) b
 
   -- WHAT A CALL ADDS to what was spent, unless it stops the volume
   abbrev pub AddsToSpent : Call → Mounted D d → Mounted D d → Type 0

@@ -13,6 +13,7 @@ use Rattle.plain_volume.specs.declared.call.Call.TheVariants.{Stat, Next, Flush}
 use Rattle.plain_volume.specs.declared.call.Fault.{Fault}
 use Rattle.plain_volume.specs.declared.call.Fault.TheVariants.{Worn, TableFull, Full}
 use Rattle.table_records.specs.declared.records.Extent.{Extent}
+use Rattle.volume_inside.specs.declared.layout.TheConstants.{CLUSTER_BYTES}
 use Rattle.volume_inside.specs.Fresh.{fresh_tables}
 use Rattle.volume_inside.specs.Inside.{Inside, inside_at, chunks_told}
 use Rattle.volume_inside.specs.InsideOf.{InsideOf}
@@ -148,7 +149,7 @@ module _ {D : Type 0} {d : Ghosts D} where
 -- THE STATE OF AN IMAGE, which fixes it: its number of clusters and its inside; its journal's epoch and where the groups
 -- of the live half end; and nothing that waits for a commit, where all clusters that no block or page takes are free
 pub record IsStateOf (image : List ℕ) (s : VolumeState) : Type 0 where
-  pub clusters : length image ≡ 4096 * s.clusters
+  pub clusters : length image ≡ CLUSTER_BYTES * s.clusters
   pub inside : InsideOf read_meta image (Ok s.inside)
   pub pending : s.pending ≡ settled (epoch_in journal_at (half_bytes s.clusters) image)
       (place_in journal_at (half_bytes s.clusters) image) (left_in s)

@@ -7,6 +7,7 @@ ghost use Rattle.plain_volume.specs.Volume.{Volume as PlainVolume};
 ghost use Rattle.plain_volume.specs.Replies.{done_reply};
 ghost use Rattle.plain_volume.specs.Step.{plain};
 ghost use Rattle.plain_volume.specs.declared.call.Call.TheVariants.{Flush};
+ghost use Rattle.volume_inside.specs.declared.layout.TheConstants.{CLUSTER_BYTES, LEAST_CLUSTERS, MOST_CLUSTERS};
 ghost use Rattle.volume_inside.specs.Inside.{Inside};
 ghost use Rattle.volume_inside.specs.InsideOf.{InsideOf};
 ghost use Rattle.volume_inside.specs.Shows.{Kept, ShowsEither};
@@ -30,8 +31,8 @@ impl<D: Disk> Volume<D> {
     /// Makes an empty volume of so many clusters, from 4,096 to 1,048,576. A shorter disk grows; a longer one is
     /// refused, as it was. Other refusals hand the disk back too, maybe with a part of the volume made.
     pub fn format(alloc: Global, disk: D, clusters: u32) -> Result<Volume<D>, (D, MountFault)>
-        requires least { 4096 ≤ clusters }
-        requires most { clusters ≤ 1048576 }
+        requires least { LEAST_CLUSTERS ≤ clusters }
+        requires most { clusters ≤ MOST_CLUSTERS }
         ensures kept { IsTrue (D.state disk).tells → IfOk result (λ v. IsKept v []) }
         ensures now { IfOk result (λ v. view_now v ≡ []) }
         ensures fresh { IfOk result (λ v. HasSpent v 0 0) }
@@ -43,8 +44,8 @@ impl<D: Disk> Volume<D> {
         ensures moments_err { IsTrue (D.state disk).tells →
             IfErr result (λ e. Keeps (D.state disk) (D.state e.0) (IsMakeImage clusters (D.state disk))) }
         ensures later { IfOk result (λ v. (D.state disk).faults ≤ (disk_of v).faults) }
-        ensures longer { 4096 * clusters < length (D.state disk).image → IfErr result (λ e. e.0 ≡ disk) }
-        ensures fits { OnOk result (length (D.state disk).image ≤ 4096 * clusters) }
+        ensures longer { CLUSTER_BYTES * clusters < length (D.state disk).image → IfErr result (λ e. e.0 ≡ disk) }
+        ensures fits { OnOk result (length (D.state disk).image ≤ CLUSTER_BYTES * clusters) }
         ensures refused { IfErr result (λ e. IsFormatFault clusters (D.state disk) (D.state e.0) e.1) }
         ensures same { IfOk result (λ v. D.is_same disk (device_of v)) }
         ensures same_err { IfErr result (λ e. D.is_same disk e.0) }

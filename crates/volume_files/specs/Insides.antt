@@ -9,6 +9,7 @@ use Rattle.std.specs.FinMap.Entries.{where_key}
 use Rattle.byte_map.specs.Words.{bytes_cmp}
 use Rattle.table_records.specs.Keys.{single_cmp, pair_cmp}
 use Rattle.table_records.specs.declared.records.FileRecord.{FileRecord}
+use Rattle.volume_inside.specs.declared.layout.TheConstants.{CLUSTER_BYTES}
 use Rattle.volume_inside.specs.Typed.{FileBlock}
 use Rattle.volume_inside.specs.Inside.{Inside}
 use Rattle.volume_inside.specs.Rules.{id_after}
@@ -75,7 +76,7 @@ cut_one k rest (Some bytes) blocks = put pair_cmp k (take rest bytes) blocks
 abbrev pub blocks_cut : ℕ → ℕ → Blocks → Blocks
 blocks_cut id len blocks =
     where_key pair_cmp (λ k. not (lies_behind id len k))
-    (cut_one (id, len / 4096) (len % 4096) (find pair_cmp (id, len / 4096) blocks) blocks)
+    (cut_one (id, len / CLUSTER_BYTES) (len % CLUSTER_BYTES) (find pair_cmp (id, len / CLUSTER_BYTES) blocks) blocks)
 
 abbrev pub blocks_cut_if : Bool → ℕ → ℕ → Blocks → Blocks
 blocks_cut_if true id len blocks = blocks_cut id len blocks
@@ -100,7 +101,7 @@ inside_resized name len i = of_id (find bytes_cmp name i.names) (λ id. id_resiz
 -- end each byte is written, or the one that stood there, or 0.
 abbrev pub block_written : ℕ → ℕ → List ℕ → ℕ → Option (List ℕ) → List ℕ
 block_written len at bytes index was =
-    map (λ o. laid at bytes (4096 * index + o) (byte_in was o)) (range_with_len 0 (min 4096 (len - 4096 * index)))
+    map (λ o. laid at bytes (CLUSTER_BYTES * index + o) (byte_in was o)) (range_with_len 0 (min CLUSTER_BYTES (len - CLUSTER_BYTES * index)))
 
 -- the blocks once so many of a file, from one on, were written
 abbrev pub blocks_written : ℕ → ℕ → ℕ → List ℕ → ℕ → ℕ → Blocks → Blocks

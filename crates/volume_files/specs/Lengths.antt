@@ -8,6 +8,7 @@ use Rattle.plain_volume.specs.declared.call.Fault.{Fault}
 use Rattle.table_records.specs.Keys.{pair_cmp}
 use Rattle.table_records.specs.declared.records.FileRecord.{FileRecord}
 use Rattle.table_records.specs.declared.records.Extent.{Extent}
+use Rattle.volume_inside.specs.declared.layout.TheConstants.{CLUSTER_BYTES}
 use Rattle.volume_inside.specs.Typed.{Typed, FileBlock}
 use Rattle.volume_inside.specs.Changes.{with_file, with_extent, keep_extents}
 use Rattle.volume_tables.specs.Tables.{tables_now}
@@ -28,11 +29,11 @@ with_extent_if k (Some e) t = with_extent k e t
 -- the tables with the block in which a file ends cut to its end
 abbrev pub end_cut : ℕ → ℕ → Typed → Typed
 end_cut id len t =
-    with_extent_if (id, len / 4096) (cut_extent (len % 4096) (find pair_cmp (id, len / 4096) t.extents)) t
+    with_extent_if (id, len / CLUSTER_BYTES) (cut_extent (len % CLUSTER_BYTES) (find pair_cmp (id, len / CLUSTER_BYTES) t.extents)) t
 
 -- a block of a file of this length that lies behind its end
 abbrev pub lies_behind : ℕ → ℕ → FileBlock → Bool
-lies_behind id len k = (k.0 == id) && nat_le len (4096 * k.1)
+lies_behind id len k = (k.0 == id) && nat_le len (CLUSTER_BYTES * k.1)
 
 -- the tables with the blocks of a file cut to its end
 abbrev pub cut_at : ℕ → ℕ → Typed → Typed

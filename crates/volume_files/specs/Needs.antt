@@ -5,6 +5,7 @@ use Rattle.std.specs.FinMap.{find, put}
 use Rattle.byte_map.specs.Words.{bytes_cmp, next_in}
 use Rattle.table_records.specs.Keys.{pair_cmp}
 use Rattle.table_records.specs.declared.records.Extent.{Extent}
+use Rattle.volume_inside.specs.declared.layout.TheConstants.{CLUSTER_BYTES}
 use Rattle.volume_inside.specs.Typed.{Typed}
 use Rattle.volume_tables.specs.Wants.{Needs}
 
@@ -27,10 +28,10 @@ delete_needs name = record { draws = false; grows = 0; records = 316 + length na
 
 -- the clusters of a file that a range touches, and the first of them
 abbrev pub first_touched : ℕ → ℕ
-first_touched at = at / 4096
+first_touched at = at / CLUSTER_BYTES
 
 abbrev pub touched : ℕ → ℕ → ℕ
-touched at count = (at + count - 1) / 4096 + 1 - at / 4096
+touched at count = (at + count - 1) / CLUSTER_BYTES + 1 - at / CLUSTER_BYTES
 
 -- the clusters of a file that these bytes touch at a place
 abbrev pub touched_at : ℕ → List ℕ → ℕ
@@ -63,7 +64,7 @@ names_more rest (Some e) = nat_lt 0 rest && nat_lt rest e.valid
 
 -- 24 where a file of this length is cut inside the bytes of an extent, which is then set anew
 abbrev pub set_at_end : Typed → ℕ → ℕ → ℕ
-set_at_end t file len = cond (names_more (len % 4096) (find pair_cmp (file, len / 4096) t.extents)) 24 0
+set_at_end t file len = cond (names_more (len % CLUSTER_BYTES) (find pair_cmp (file, len / CLUSTER_BYTES) t.extents)) 24 0
 
 -- another length: the record of the file, and, where it is shorter, the extents behind its end are dropped, and the one
 -- at its end is set anew

@@ -5,6 +5,7 @@ use Rattle.std.specs.FinMap.{find}
 use Rattle.plain_volume.specs.Volume.{is_beside}
 use Rattle.table_records.specs.Keys.{pair_cmp}
 use Rattle.table_records.specs.declared.records.FileRecord.{FileRecord}
+use Rattle.volume_inside.specs.declared.layout.TheConstants.{CLUSTER_BYTES}
 use Rattle.volume_inside.specs.Typed.{Typed}
 
 -- how many bytes of a file its base covers, if it is there
@@ -14,7 +15,7 @@ covered_in (Some file) = file.covers
 
 -- THE CONDITION at a place of the file of an id: if the file's base covers the place, the block has an extent
 abbrev pub IsOwn : Typed → ℕ → ℕ → Type 0
-IsOwn t id p = p < covered_in (find nat_cmp id t.files) → IsSome (find pair_cmp (id, p / 4096) t.extents)
+IsOwn t id p = p < covered_in (find nat_cmp id t.files) → IsSome (find pair_cmp (id, p / CLUSTER_BYTES) t.extents)
 
 -- of a read: so it is from one place on, up to another
 abbrev pub AreOwn : Typed → ℕ → ℕ → ℕ → Type 0

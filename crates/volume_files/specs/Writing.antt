@@ -14,6 +14,7 @@ use Rattle.plain_volume.specs.declared.call.Fault.{Fault}
 use Rattle.table_records.specs.Keys.{pair_cmp}
 use Rattle.table_records.specs.declared.records.Extent.{Extent}
 use Rattle.table_records.specs.declared.records.FileRecord.{FileRecord}
+use Rattle.volume_inside.specs.declared.layout.TheConstants.{CLUSTER_BYTES}
 use Rattle.volume_inside.specs.Typed.{Typed, FileBlock}
 use Rattle.volume_inside.specs.Inside.{block_of, cluster_bytes}
 use Rattle.volume_inside.specs.Layout.{IsDataCluster}
@@ -42,19 +43,19 @@ laid_from from at bytes p old =
 
 -- how many blocks there are from one on up to a place
 abbrev pub blocks_up_to : ℕ → ℕ → ℕ
-blocks_up_to to index = (to + 4095) / 4096 - index
+blocks_up_to to index = (to + (CLUSTER_BYTES - 1)) / CLUSTER_BYTES - index
 
 -- ---- clusters that were written ahead, one for each block of a file from the one on that begins at `start`
 
 -- each of so many blocks is filled by n bytes at a place of the file
 abbrev pub AreFilled : ℕ → ℕ → ℕ → ℕ → Type 0
 AreFilled start at n count =
-    (k : ℕ) → k < count → (at ≤ start + 4096 * k) × (start + 4096 * k + 4096 ≤ at + n)
+    (k : ℕ) → k < count → (at ≤ start + CLUSTER_BYTES * k) × (start + CLUSTER_BYTES * k + CLUSTER_BYTES ≤ at + n)
 
 -- each cluster of the run has its part of the bytes
 abbrev pub AreAhead : ℕ → ℕ → List ℕ → Run → List ℕ → Type 0
 AreAhead start at bytes run image =
-    (k : ℕ) → k < run.count → cluster_bytes (run.first + k) image ≡ part (start + 4096 * k - at) 4096 bytes
+    (k : ℕ) → k < run.count → cluster_bytes (run.first + k) image ≡ part (start + CLUSTER_BYTES * k - at) CLUSTER_BYTES bytes
 
 -- a run without its first cluster
 abbrev pub without_first : Run → Run
@@ -62,18 +63,18 @@ without_first run = record { first = run.first + 1; count = run.count - 1 }
 
 -- a cluster has the block as it is once the bytes were written: an extent named what stood there in an older image
 abbrev pub HasLaid : ℕ → ℕ → List ℕ → Option Extent → List ℕ → List ℕ → ℕ → Type 0
-HasLaid start at bytes was older image cluster = (o : ℕ) → o < 4096 → get_or (cluster_bytes cluster image) o 0
+HasLaid start at bytes was older image cluster = (o : ℕ) → o < CLUSTER_BYTES → get_or (cluster_bytes cluster image) o 0
     ≡ laid at bytes (start + o) (get_or (named_bytes was older) o 0)
 
 -- ---- tables
 
 -- the block of a key has a part of the bytes from one place up to another
 abbrev pub IsTouched : ℕ → ℕ → ℕ → FileBlock → Type 0
-IsTouched file from to k = (k.0 ≡ file) × (from < 4096 * k.1 + 4096) × (4096 * k.1 < to)
+IsTouched file from to k = (k.0 ≡ file) × (from < CLUSTER_BYTES * k.1 + CLUSTER_BYTES) × (CLUSTER_BYTES * k.1 < to)
 
 -- an extent that can be read
 pub record IsReadable (n : ℕ) (e : Extent) : Type 0 where
-  pub in_cluster : e.valid ≤ 4096
+  pub in_cluster : e.valid ≤ CLUSTER_BYTES
   pub in_data : IsDataCluster n e.cluster
 
 -- the record of a file that reaches up to a place at least
@@ -102,14 +103,14 @@ AreWritten file at (b ∷ bytes) old new = IsWritten file at (at + length (b ∷
 
 -- bytes at a place of a file do not fill its block that begins at `start`, and that has bytes, which are read first
 pub record IsReadFirst (start at count : ℕ) (was : Option Extent) : Type 0 where
-  pub unfilled : (at ≤ start) × (start + 4096 ≤ at + count) → ⊥
+  pub unfilled : (at ≤ start) × (start + CLUSTER_BYTES ≤ at + count) → ⊥
   pub there : IsSome was
 
 -- so it is with one of the blocks from a place of the file on that the bytes touch
 pub record ReadsFirst (file from at count : ℕ) (t : Typed) : Type 0 where
   pub index : ℕ
   pub touched : IsTouched file from (at + count) (file, index)
-  pub read : IsReadFirst (4096 * index) at count (find pair_cmp (file, index) t.extents)
+  pub read : IsReadFirst (CLUSTER_BYTES * index) at count (find pair_cmp (file, index) t.extents)
 
 -- ---- clusters
 

@@ -4,6 +4,7 @@ ghost use Rattle.std.specs.Prelude.{◌≡◌, ◌⊎◌, ◌↔◌, ◌≤◌, 
 ghost use Rattle.std.specs.Prelude.{false, min, take, drop, IfOk, IfSome, IsSome, OnOk, OnErr, IsErrOf, IsTrue, Some};
 ghost use Rattle.std.specs.FinMap.{find};
 ghost use Rattle.vdisk.specs.Causes.{Rose};
+ghost use Rattle.plain_volume.specs.declared.limits.TheConstants.{MOST_BYTES_OF_A_CALL, MOST_BYTES_OF_A_FILE};
 ghost use Rattle.cluster_space.specs.States.{IsIn, free_in};
 ghost use Rattle.cluster_space.specs.declared.state.State.TheVariants.{Deferred, Free};
 ghost use Rattle.table_records.specs.Keys.{pair_cmp};
@@ -13,6 +14,7 @@ ghost use Rattle.volume_inside.specs.Inside.{block_of, inside_at};
 ghost use Rattle.volume_inside.specs.Layout.{half_bytes};
 ghost use Rattle.volume_inside.specs.Rules.{RulesHold};
 ghost use Rattle.volume_inside.specs.Typed.{Typed};
+ghost use Rattle.volume_tables.specs.declared.room.TheConstants.{MOST_RECORDS};
 ghost use Rattle.volume_tables.specs.Clusters.{HasState};
 ghost use Rattle.volume_tables.specs.Frames.{AreFree, NamesNoFree};
 ghost use Rattle.volume_tables.specs.Tables.{tables_now, inside_now, states_of, staged_of, checkpoint_of, disk_of};
@@ -43,12 +45,12 @@ fn put_part(block: &mut [u8], from: usize, part: &[u8])
 
 /// Lays bytes that belong at the place `at` of a file over its block that begins at `start`. Some of them lie in it.
 fn lay_over(block: &mut [u8; BLOCK_BYTES], start: u64, at: u64, bytes: &[u8])
-    requires short { length bytes.now ≤ 1048576 }
-    requires low { at ≤ 1073741824 }
-    requires block_low { start ≤ 1073741824 }
-    requires before { at < start + 4096 }
+    requires short { length bytes.now ≤ MOST_BYTES_OF_A_CALL }
+    requires low { at ≤ MOST_BYTES_OF_A_FILE }
+    requires block_low { start ≤ MOST_BYTES_OF_A_FILE }
+    requires before { at < start + CLUSTER_BYTES }
     requires behind { start < at + length bytes.now }
-    ensures { (o : ℕ) → o < 4096 → slice_index block.new o ≡
+    ensures { (o : ℕ) → o < CLUSTER_BYTES → slice_index block.new o ≡
         laid at bytes.now (start + o) (slice_index block.old o) }
 {
     let from = at.saturating_sub(start) as usize;
@@ -64,7 +66,7 @@ fn read_extent<D: Disk>(
     block: &mut [u8],
 ) -> Result<(), Fault>
     requires readable { IsReadable tables.old.clusters extent }
-    requires whole { length block.old ≡ 4096 }
+    requires whole { length block.old ≡ CLUSTER_BYTES }
     ensures bytes { (stored : Typed) → IsTables tables.old stored → OnOk result (block.new ≡
         block_of extent (disk_of tables.old).image ++ drop extent.valid block.old) }
     ensures now { tables_now tables.new ≡ tables_now tables.old }
@@ -88,7 +90,7 @@ fn read_block<D: Disk>(
 ) -> Result<(), Fault>
     requires readable { IfSome was (IsReadable tables.old.clusters) }
     requires zeros { (o : ℕ) → slice_index block.old o ≡ 0 }
-    ensures bytes { (stored : Typed) → IsTables tables.old stored → OnOk result ((o : ℕ) → o < 4096 →
+    ensures bytes { (stored : Typed) → IsTables tables.old stored → OnOk result ((o : ℕ) → o < CLUSTER_BYTES →
         slice_index block.new o ≡ slice_index (named_bytes was (disk_of tables.old).image) o) }
     ensures now { tables_now tables.new ≡ tables_now tables.old }
     ensures states { states_of tables.new ≡ states_of tables.old }
@@ -109,10 +111,10 @@ fn read_block<D: Disk>(
 
 /// Whether so many bytes that belong at the place `at` of a file fill its block that begins at `start`.
 fn fills(start: u64, at: u64, count: usize) -> bool
-    requires low { at ≤ 1073741824 }
-    requires block_low { start ≤ 1073741824 }
-    requires short { count ≤ 1048576 }
-    ensures { IsTrue result ↔ (at ≤ start) × (start + 4096 ≤ at + count) }
+    requires low { at ≤ MOST_BYTES_OF_A_FILE }
+    requires block_low { start ≤ MOST_BYTES_OF_A_FILE }
+    requires short { count ≤ MOST_BYTES_OF_A_CALL }
+    ensures { IsTrue result ↔ (at ≤ start) × (start + CLUSTER_BYTES ≤ at + count) }
 {
     at <= start && start + BLOCK <= at + count as u64
 }
@@ -127,12 +129,12 @@ fn block_with<D: Disk>(
     bytes: &[u8],
 ) -> Result<[u8; BLOCK_BYTES], Fault>
     requires readable { IfSome was (IsReadable tables.old.clusters) }
-    requires short { length bytes.now ≤ 1048576 }
-    requires low { at ≤ 1073741824 }
-    requires block_low { start ≤ 1073741824 }
-    requires before { at < start + 4096 }
+    requires short { length bytes.now ≤ MOST_BYTES_OF_A_CALL }
+    requires low { at ≤ MOST_BYTES_OF_A_FILE }
+    requires block_low { start ≤ MOST_BYTES_OF_A_FILE }
+    requires before { at < start + CLUSTER_BYTES }
     requires behind { start < at + length bytes.now }
-    ensures bytes { (stored : Typed) → IsTables tables.old stored → IfOk result (λ block. (o : ℕ) → o < 4096 →
+    ensures bytes { (stored : Typed) → IsTables tables.old stored → IfOk result (λ block. (o : ℕ) → o < CLUSTER_BYTES →
         slice_index block o ≡
         laid at bytes.now (start + o) (slice_index (named_bytes was (disk_of tables.old).image) o)) }
     ensures now { tables_now tables.new ≡ tables_now tables.old }
@@ -168,10 +170,10 @@ fn write_alone<D: Disk>(
 ) -> Result<Run, Fault>
     requires running { stopped tables.old ≡ false }
     requires readable { IfSome was (IsReadable tables.old.clusters) }
-    requires short { length bytes.now ≤ 1048576 }
-    requires low { at ≤ 1073741824 }
-    requires block_low { start ≤ 1073741824 }
-    requires before { at < start + 4096 }
+    requires short { length bytes.now ≤ MOST_BYTES_OF_A_CALL }
+    requires low { at ≤ MOST_BYTES_OF_A_FILE }
+    requires block_low { start ≤ MOST_BYTES_OF_A_FILE }
+    requires before { at < start + CLUSTER_BYTES }
     requires behind { start < at + length bytes.now }
     requires some { 0 < free_in (states_of tables.old) }
     ensures one { IfOk result (λ run. run.count ≡ 1) }
@@ -204,9 +206,9 @@ fn write_filled<D: Disk>(
     bytes: &[u8],
 ) -> Result<Run, Fault>
     requires running { stopped tables.old ≡ false }
-    requires short { length bytes.now ≤ 1048576 }
+    requires short { length bytes.now ≤ MOST_BYTES_OF_A_CALL }
     requires low { at ≤ start }
-    requires filled { start + 4096 ≤ at + length bytes.now }
+    requires filled { start + CLUSTER_BYTES ≤ at + length bytes.now }
     requires some { 0 < free_in (states_of tables.old) }
     ensures some { IfOk result (λ run. 0 < run.count) }
     ensures free { IfOk result (λ run. AreFree tables.old.clusters (states_of tables.old) run) }
@@ -242,23 +244,23 @@ fn write_ahead<D: Disk>(
 ) -> Result<Run, Fault>
     requires running { stopped tables.old ≡ false }
     requires readable { IfSome was (IsReadable tables.old.clusters) }
-    requires short { length bytes.now ≤ 1048576 }
-    requires low { at ≤ 1073741824 }
-    requires block_low { start ≤ 1073741824 }
-    requires before { at < start + 4096 }
+    requires short { length bytes.now ≤ MOST_BYTES_OF_A_CALL }
+    requires low { at ≤ MOST_BYTES_OF_A_FILE }
+    requires block_low { start ≤ MOST_BYTES_OF_A_FILE }
+    requires before { at < start + CLUSTER_BYTES }
     requires behind { start < at + length bytes.now }
     requires some { 0 < free_in (states_of tables.old) }
     requires free { AreFree tables.old.clusters (states_of tables.old) ahead }
     requires filled { AreFilled start at (length bytes.now) ahead.count }
     ensures some { IfOk result (λ run. 0 < run.count) }
     ensures free { IfOk result (λ run. AreFree tables.old.clusters (states_of tables.old) run) }
-    ensures filled { IfOk result (λ run. AreFilled (start + 4096) at (length bytes.now) (run.count - 1)) }
+    ensures filled { IfOk result (λ run. AreFilled (start + CLUSTER_BYTES) at (length bytes.now) (run.count - 1)) }
     ensures block { (stored : Typed) → IsTables tables.old stored →
         AreAhead start at bytes.now ahead (disk_of tables.old).image → IfOk result (λ run. HasLaid start at bytes.now was
         (disk_of tables.old).image (disk_of tables.new).image run.first) }
     ensures ahead { (stored : Typed) → IsTables tables.old stored →
         AreAhead start at bytes.now ahead (disk_of tables.old).image → IfOk result (λ run.
-        AreAhead (start + 4096) at bytes.now (without_first run) (disk_of tables.new).image) }
+        AreAhead (start + CLUSTER_BYTES) at bytes.now (without_first run) (disk_of tables.new).image) }
     ensures now { tables_now tables.new ≡ tables_now tables.old }
     ensures states { states_of tables.new ≡ states_of tables.old }
     ensures same { inside_now tables.new ≡ inside_now tables.old }
@@ -293,7 +295,7 @@ fn name_block<D: Disk>(
     requires running { stopped tables.old ≡ false }
     requires is { was ≡ find pair_cmp key (tables_now tables.old).extents }
     requires some { HasState tables.old.clusters (states_of tables.old) Free cluster }
-    requires room { staged_of tables.old + 24 ≤ 65472 }
+    requires room { staged_of tables.old + 24 ≤ MOST_RECORDS }
     requires fits { checkpoint_of tables.old + new_bytes (find pair_cmp key (tables_now tables.old).extents) 24
         ≤ half_bytes tables.old.clusters }
     ensures ok { IfOk result (λ e. tables_now tables.new ≡ with_extent key e (tables_now tables.old)) }
@@ -349,32 +351,32 @@ pub(crate) fn write_block<D: Disk>(
     requires running { stopped tables.old ≡ false }
     requires is { was ≡ find pair_cmp key (tables_now tables.old).extents }
     requires rules { RulesHold tables.old.clusters (with_file key.0 grown (tables_now tables.old)) }
-    requires short { length bytes.now ≤ 1048576 }
+    requires short { length bytes.now ≤ MOST_BYTES_OF_A_CALL }
     requires reach { at + length bytes.now ≤ grown.length }
-    requires before { at < 4096 * key.1 + 4096 }
-    requires behind { 4096 * key.1 < at + length bytes.now }
-    requires most { grown.length ≤ 1073741824 }
+    requires before { at < CLUSTER_BYTES * key.1 + CLUSTER_BYTES }
+    requires behind { CLUSTER_BYTES * key.1 < at + length bytes.now }
+    requires most { grown.length ≤ MOST_BYTES_OF_A_FILE }
     requires some { 0 < free_in (states_of tables.old) }
-    requires room { staged_of tables.old + 24 ≤ 65472 }
+    requires room { staged_of tables.old + 24 ≤ MOST_RECORDS }
     requires fits { checkpoint_of tables.old + new_bytes was 24 ≤ half_bytes tables.old.clusters }
     requires free { AreFree tables.old.clusters (states_of tables.old) ahead }
-    requires filled { AreFilled (4096 * key.1) at (length bytes.now) ahead.count }
+    requires filled { AreFilled (CLUSTER_BYTES * key.1) at (length bytes.now) ahead.count }
     ensures ok { IfOk result (λ w. tables_now tables.new ≡ with_extent key w.extent (tables_now tables.old)) }
     ensures err { OnErr result (tables_now tables.new ≡ tables_now tables.old) }
     ensures free_ahead { IfOk result (λ w. AreFree tables.new.clusters (states_of tables.new) w.ahead) }
-    ensures filled { IfOk result (λ w. AreFilled (4096 * (key.1 + 1)) at (length bytes.now) w.ahead.count) }
+    ensures filled { IfOk result (λ w. AreFilled (CLUSTER_BYTES * (key.1 + 1)) at (length bytes.now) w.ahead.count) }
     ensures ahead { (stored : Typed) → IsTables tables.old stored →
-        AreAhead (4096 * key.1) at bytes.now ahead (disk_of tables.old).image → IfOk result (λ w.
-        AreAhead (4096 * (key.1 + 1)) at bytes.now w.ahead (disk_of tables.new).image) }
+        AreAhead (CLUSTER_BYTES * key.1) at bytes.now ahead (disk_of tables.old).image → IfOk result (λ w.
+        AreAhead (CLUSTER_BYTES * (key.1 + 1)) at bytes.now w.ahead (disk_of tables.new).image) }
     ensures rules { RulesHold tables.new.clusters (with_file key.0 grown (tables_now tables.new)) }
     ensures inside { IfOk result (λ w. inside_now tables.new ≡
         with_block key (block_of w.extent (disk_of tables.new).image) (inside_now tables.old)) }
     ensures written { (stored : Typed) → IsTables tables.old stored →
-        AreAhead (4096 * key.1) at bytes.now ahead (disk_of tables.old).image → IfOk result (λ w. (o : ℕ) → o < 4096 →
-        4096 * key.1 + o < grown.length → slice_index (block_of w.extent (disk_of tables.new).image) o ≡
-        laid at bytes.now (4096 * key.1 + o) (slice_index (named_bytes was (disk_of tables.old).image) o)) }
+        AreAhead (CLUSTER_BYTES * key.1) at bytes.now ahead (disk_of tables.old).image → IfOk result (λ w. (o : ℕ) → o < CLUSTER_BYTES →
+        CLUSTER_BYTES * key.1 + o < grown.length → slice_index (block_of w.extent (disk_of tables.new).image) o ≡
+        laid at bytes.now (CLUSTER_BYTES * key.1 + o) (slice_index (named_bytes was (disk_of tables.old).image) o)) }
     ensures block { (stored : Typed) → IsTables tables.old stored →
-        AreAhead (4096 * key.1) at bytes.now ahead (disk_of tables.old).image → IfOk result (λ w.
+        AreAhead (CLUSTER_BYTES * key.1) at bytes.now ahead (disk_of tables.old).image → IfOk result (λ w.
         block_of w.extent (disk_of tables.new).image ≡ block_written grown.length at bytes.now key.1
         (find pair_cmp key (inside_now tables.old).blocks)) }
     ensures frame { (t : Typed) → NamesNoFree tables.old.clusters (states_of tables.old) t →
@@ -393,7 +395,7 @@ pub(crate) fn write_block<D: Disk>(
     ensures refused { OnErr result (IsErrOf result Fault.Failed ⊎ IsErrOf result Fault.Memory) }
     ensures failed { IsErrOf result Fault.Failed → Rose (disk_of tables.old).faults (disk_of tables.new).faults }
     ensures halts { IsErrOf result Fault.Failed →
-        (stopped tables.new ≡ true) ⊎ IsReadFirst (4096 * key.1) at (length bytes.now) was }
+        (stopped tables.new ≡ true) ⊎ IsReadFirst (CLUSTER_BYTES * key.1) at (length bytes.now) was }
 {
     let start = BLOCK * key.1 as u64;
     let ready = write_ahead(tables, was, start, at, bytes, ahead)?;

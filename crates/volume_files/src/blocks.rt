@@ -4,17 +4,20 @@ ghost use Rattle.std.specs.Prelude.{◌≡◌, ◌⊎◌, ◌≤◌, ◌<◌, �
 ghost use Rattle.std.specs.Prelude.{IsErrOf, Some};
 ghost use Rattle.std.specs.FinMap.{find, is_sorted};
 ghost use Rattle.vdisk.specs.Causes.{Rose};
+ghost use Rattle.plain_volume.specs.declared.limits.TheConstants.{MOST_BYTES_OF_A_CALL, MOST_BYTES_OF_A_FILE};
 ghost use Rattle.cluster_space.specs.States.{IsIn, free_in};
 ghost use Rattle.cluster_space.specs.declared.state.State.TheVariants.{Deferred};
 ghost use Rattle.table_records.specs.Keys.{pair_cmp};
 ghost use Rattle.table_records.specs.declared.records.Extent.{Extent};
 ghost use Rattle.table_records.specs.declared.records.FileRecord.{FileRecord};
+ghost use Rattle.volume_inside.specs.declared.layout.TheConstants.{CLUSTER_BYTES};
 ghost use Rattle.volume_inside.specs.Changes.{with_extent, with_file};
 ghost use Rattle.volume_inside.specs.Inside.{inside_at};
 ghost use Rattle.volume_inside.specs.Layout.{half_bytes, first_data_cluster};
 ghost use Rattle.volume_inside.specs.Rules.{RulesHold};
 ghost use Rattle.volume_inside.specs.Typed.{Typed};
 ghost use Rattle.volume_inside.specs.View.{cell};
+ghost use Rattle.volume_tables.specs.declared.room.TheConstants.{MOST_RECORDS};
 ghost use Rattle.volume_tables.specs.Clusters.{HasState};
 ghost use Rattle.volume_tables.specs.Frames.{AreFree, NamesNoFree};
 ghost use Rattle.volume_tables.specs.Tables.{tables_now, inside_now, states_of, staged_of, checkpoint_of, disk_of};
@@ -39,7 +42,7 @@ fn restore_extent<D: Disk>(
     named: Extent,
     was: Option<Extent>,
 )
-    requires room { staged_of tables.old + 31 ≤ 65472 }
+    requires room { staged_of tables.old + 31 ≤ MOST_RECORDS }
     requires low { key.1 < 1048576 }
     requires there { find pair_cmp key (tables_now tables.old).extents ≡ Some named }
     requires deferred { (o : Extent) → was ≡ Some o →
@@ -75,30 +78,30 @@ pub(crate) fn write_blocks<D: Disk>(
 ) -> Result<(), Fault>
     requires running { stopped tables.old ≡ false }
     requires rules { RulesHold tables.old.clusters (with_file file grown (tables_now tables.old)) }
-    requires short { length bytes.now ≤ 1048576 }
+    requires short { length bytes.now ≤ MOST_BYTES_OF_A_CALL }
     requires reach { at + length bytes.now ≤ grown.length }
-    requires most { grown.length ≤ 1073741824 }
-    requires from_first { at < 4096 * index + 4096 }
+    requires most { grown.length ≤ MOST_BYTES_OF_A_FILE }
+    requires from_first { at < CLUSTER_BYTES * index + CLUSTER_BYTES }
     requires own { AreOwnBeside (with_file file grown (tables_now tables.old)) file at (length bytes.now) }
     requires clusters { blocks_up_to (at + length bytes.now) index ≤ free_in (states_of tables.old) }
-    requires room { staged_of tables.old + 55 * blocks_up_to (at + length bytes.now) index ≤ 65472 }
+    requires room { staged_of tables.old + 55 * blocks_up_to (at + length bytes.now) index ≤ MOST_RECORDS }
     requires fits { checkpoint_of tables.old +
         24 * missing (tables_now tables.old) file index (blocks_up_to (at + length bytes.now) index)
         ≤ half_bytes tables.old.clusters }
     requires free { AreFree tables.old.clusters (states_of tables.old) ahead }
-    requires filled { AreFilled (4096 * index) at (length bytes.now) ahead.count }
-    ensures ok { OnOk result (AreExtentsSet file (4096 * index) (at + length bytes.now)
+    requires filled { AreFilled (CLUSTER_BYTES * index) at (length bytes.now) ahead.count }
+    ensures ok { OnOk result (AreExtentsSet file (CLUSTER_BYTES * index) (at + length bytes.now)
         (tables_now tables.old) (tables_now tables.new)) }
     ensures err { OnErr result (tables_now tables.new ≡ tables_now tables.old) }
     ensures rules { OnOk result (RulesHold tables.new.clusters (with_file file grown (tables_now tables.new))) }
     ensures others { OnOk result ((other p : ℕ) (record_of : FileRecord) → (other ≡ file → ⊥) →
         cell (inside_now tables.new) other record_of p ≡ cell (inside_now tables.old) other record_of p) }
     ensures cells { (stored : Typed) → IsTables tables.old stored →
-        AreAhead (4096 * index) at bytes.now ahead (disk_of tables.old).image → OnOk result ((p : ℕ) → p < grown.length →
+        AreAhead (CLUSTER_BYTES * index) at bytes.now ahead (disk_of tables.old).image → OnOk result ((p : ℕ) → p < grown.length →
         cell (inside_now tables.new) file grown p ≡
-        laid_from (4096 * index) at bytes.now p (cell (inside_now tables.old) file grown p)) }
+        laid_from (CLUSTER_BYTES * index) at bytes.now p (cell (inside_now tables.old) file grown p)) }
     ensures inside { (stored : Typed) → IsTables tables.old stored →
-        AreAhead (4096 * index) at bytes.now ahead (disk_of tables.old).image → OnOk result (inside_now tables.new ≡
+        AreAhead (CLUSTER_BYTES * index) at bytes.now ahead (disk_of tables.old).image → OnOk result (inside_now tables.new ≡
         with_blocks (blocks_written file grown.length at bytes.now index
         (blocks_up_to (at + length bytes.now) index) (inside_now tables.old).blocks) (inside_now tables.old)) }
     ensures frame { (t : Typed) → NamesNoFree tables.old.clusters (states_of tables.old) t →
@@ -118,7 +121,7 @@ pub(crate) fn write_blocks<D: Disk>(
     ensures refused { OnErr result (IsErrOf result Fault.Failed ⊎ IsErrOf result Fault.Memory) }
     ensures failed { IsErrOf result Fault.Failed → Rose (disk_of tables.old).faults (disk_of tables.new).faults }
     ensures halts { IsErrOf result Fault.Failed → (stopped tables.new ≡ true) ⊎
-        ReadsFirst file (4096 * index) at (length bytes.now) (tables_now tables.old) }
+        ReadsFirst file (CLUSTER_BYTES * index) at (length bytes.now) (tables_now tables.old) }
 {
     if BLOCK * index as u64 >= at + bytes.len() as u64 {
         return Ok(());

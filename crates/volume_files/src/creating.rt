@@ -5,6 +5,7 @@ ghost use Rattle.plain_volume.specs.Replies.{done_reply};
 ghost use Rattle.plain_volume.specs.declared.call.Call.TheVariants.{Create};
 ghost use Rattle.volume_inside.specs.Layout.{half_bytes};
 ghost use Rattle.volume_inside.specs.Rules.{RulesHold, next_id_of};
+ghost use Rattle.volume_tables.specs.declared.room.TheConstants.{MOST_RECORDS};
 ghost use Rattle.volume_tables.specs.Tables.{clusters_in, tables_now, inside_now, view_now, states_of, staged_of};
 ghost use Rattle.volume_tables.specs.Tables.{checkpoint_of, disk_of, stopped, Leaves};
 ghost use Rattle.volume_tables.specs.Pending.{IsPending};
@@ -44,7 +45,7 @@ fn check_new<D: Disk>(tables: &Tables<D>, name: &[u8]) -> Result<(), Fault>
 fn put_file<D: Disk>(tables: &mut Tables<D>, name: &[u8]) -> Result<(), Fault>
     requires new { IsNewName (tables_now tables.old) name.now }
     requires rules { RulesHold (clusters_in tables.old) (tables_now tables.old) }
-    requires room { staged_of tables.old + (93 + length name.now) ≤ 65472 }
+    requires room { staged_of tables.old + (93 + length name.now) ≤ MOST_RECORDS }
     requires fits { checkpoint_of tables.old + (52 + length name.now) ≤ half_bytes (clusters_in tables.old) }
     requires ids { next_id_of (tables_now tables.old) ≡ last_id → ⊥ }
     ensures ok { OnOk result (tables_now tables.new ≡ with_new name.now (tables_now tables.old)) }

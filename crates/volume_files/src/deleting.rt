@@ -8,6 +8,7 @@ ghost use Rattle.plain_volume.specs.Step.{plain, after};
 ghost use Rattle.plain_volume.specs.Replies.{done_reply};
 ghost use Rattle.plain_volume.specs.declared.call.Call.TheVariants.{Delete};
 ghost use Rattle.volume_inside.specs.Changes.{keep_names};
+ghost use Rattle.volume_tables.specs.declared.room.TheConstants.{MOST_RECORDS};
 ghost use Rattle.volume_tables.specs.Tables.{tables_now, inside_now, view_now, staged_of, disk_of, stopped};
 ghost use Rattle.volume_tables.specs.Pending.{IsPending};
 ghost use Rattle.volume_tables.specs.Sound.{IsSound, Endures, Spares};
@@ -49,7 +50,7 @@ fn copy_next<D: Disk>(
 pub(crate) fn drop_one_name<D: Disk>(tables: &mut Tables<D>, name: &[u8])
     requires short { length name.now ≤ 255 }
     requires names { AreShort (tables_now tables.old).names }
-    requires room { staged_of tables.old + (262 + length name.now) ≤ 65472 }
+    requires room { staged_of tables.old + (262 + length name.now) ≤ MOST_RECORDS }
     ensures tables { tables_now tables.new ≡ keep_names (is_other name.now) (tables_now tables.old) }
     ensures stages { Stages (drop_bytes (tables_now tables.old).names name.now) tables.old tables.new }
 {
@@ -65,7 +66,7 @@ fn drop_all<D: Disk>(tables: &mut Tables<D>, name: &[u8], id: u64)
     requires short { length name.now ≤ 255 }
     requires names { AreShort (tables_now tables.old).names }
     requires id { id < 2 ^ 48 }
-    requires room { staged_of tables.old + (316 + length name.now) ≤ 65472 }
+    requires room { staged_of tables.old + (316 + length name.now) ≤ MOST_RECORDS }
     ensures tables { tables_now tables.new ≡ without_name name.now id (tables_now tables.old) }
     ensures stages { Stages (delete_bytes (tables_now tables.old).names name.now) tables.old tables.new }
 {

@@ -7,6 +7,7 @@ ghost use Rattle.plain_volume.specs.Replies.{done_reply};
 ghost use Rattle.plain_volume.specs.declared.call.Call.TheVariants.{Rename};
 ghost use Rattle.volume_inside.specs.Layout.{half_bytes};
 ghost use Rattle.volume_inside.specs.Rules.{RulesHold};
+ghost use Rattle.volume_tables.specs.declared.room.TheConstants.{MOST_RECORDS};
 ghost use Rattle.volume_tables.specs.Tables.{clusters_in, tables_now, inside_now, view_now, staged_of, checkpoint_of};
 ghost use Rattle.volume_tables.specs.Tables.{disk_of, stopped};
 ghost use Rattle.volume_tables.specs.Pending.{IsPending};
@@ -56,7 +57,7 @@ fn replace_name<D: Disk>(
     requires short { length from.now ≤ 255 }
     requires short_to { length to.now ≤ 255 }
     requires names { AreShort (tables_now tables.old).names }
-    requires room { staged_of tables.old + (276 + (length from.now + length to.now)) ≤ 65472 }
+    requires room { staged_of tables.old + (276 + (length from.now + length to.now)) ≤ MOST_RECORDS }
     requires fits { checkpoint_of tables.old + (14 + length to.now) ≤ half_bytes (clusters_in tables.old) }
     ensures ok { OnOk result (tables_now tables.new ≡ with_renamed from.now to.now id (tables_now tables.old)) }
     ensures err { OnErr result (tables_now tables.new ≡ tables_now tables.old) }

@@ -7,6 +7,8 @@ ghost use Rattle.plain_volume.specs.Replies.{done_reply};
 ghost use Rattle.plain_volume.specs.Step.{plain, after};
 ghost use Rattle.plain_volume.specs.declared.call.Call.TheVariants.{SetLength};
 ghost use Rattle.table_records.specs.declared.records.FileRecord.{FileRecord};
+ghost use Rattle.volume_inside.specs.declared.layout.TheConstants.{CLUSTER_BYTES};
+ghost use Rattle.volume_tables.specs.declared.room.TheConstants.{MOST_RECORDS};
 ghost use Rattle.volume_tables.specs.Tables.{tables_now, inside_now, view_now, disk_of, staged_of, stopped};
 ghost use Rattle.volume_tables.specs.Pending.{IsPending};
 ghost use Rattle.volume_tables.specs.Sound.{IsSound, Endures, Spares};
@@ -27,8 +29,8 @@ use volume_tables::{Extent, FileRecord, Tables, make_room};
 
 /// The extent of the block in which a file of this length ends, cut to the file's end, if it has more bytes.
 fn cut_end_extent<D: Disk>(tables: &Tables<D>, id: u64, length: u64) -> Option<Extent>
-    requires { length ≤ 1073741824 }
-    ensures { result ≡ cut_extent (length % 4096) (find pair_cmp (id, length / 4096) (tables_now tables.now).extents) }
+    requires { length ≤ MOST_BYTES_OF_A_FILE }
+    ensures { result ≡ cut_extent (length % CLUSTER_BYTES) (find pair_cmp (id, length / CLUSTER_BYTES) (tables_now tables.now).extents) }
 {
     let extent = tables.get_extent((id, (length / BLOCK) as u32))?;
     let rest = (length % BLOCK) as u16;
@@ -44,7 +46,7 @@ fn cut_end_extent<D: Disk>(tables: &Tables<D>, id: u64, length: u64) -> Option<E
 
 /// The most bytes of records that another length of a file stages.
 fn records_of_length<D: Disk>(tables: &Tables<D>, id: u64, old: u64, length: u64) -> usize
-    requires { length ≤ 1073741824 }
+    requires { length ≤ MOST_BYTES_OF_A_FILE }
     ensures { result ≡ (length_needs (tables_now tables.now) id old length).records }
 {
     if old <= length {
@@ -58,8 +60,8 @@ fn records_of_length<D: Disk>(tables: &Tables<D>, id: u64, old: u64, length: u64
 
 /// Cuts the block in which a file of this length ends.
 fn cut_end<D: Disk>(tables: &mut Tables<D>, id: u64, length: u64)
-    requires short { length ≤ 1073741824 }
-    requires room { staged_of tables.old + set_at_end (tables_now tables.old) id length ≤ 65472 }
+    requires short { length ≤ MOST_BYTES_OF_A_FILE }
+    requires room { staged_of tables.old + set_at_end (tables_now tables.old) id length ≤ MOST_RECORDS }
     ensures tables { tables_now tables.new ≡ end_cut id length (tables_now tables.old) }
     ensures stages { Stages (set_at_end (tables_now tables.old) id length) tables.old tables.new }
 {
@@ -73,8 +75,8 @@ fn cut_end<D: Disk>(tables: &mut Tables<D>, id: u64, length: u64)
 /// Cuts the blocks of a file to its end, where it has this length.
 fn cut<D: Disk>(tables: &mut Tables<D>, id: u64, length: u64)
     requires id { id < 2 ^ 48 }
-    requires short { length ≤ 1073741824 }
-    requires room { staged_of tables.old + (31 + set_at_end (tables_now tables.old) id length) ≤ 65472 }
+    requires short { length ≤ MOST_BYTES_OF_A_FILE }
+    requires room { staged_of tables.old + (31 + set_at_end (tables_now tables.old) id length) ≤ MOST_RECORDS }
     ensures tables { tables_now tables.new ≡ cut_at id length (tables_now tables.old) }
     ensures stages { Stages (31 + set_at_end (tables_now tables.old) id length) tables.old tables.new }
 {
@@ -99,10 +101,10 @@ fn record_of_length(file: FileRecord, length: u64) -> FileRecord
 /// Gives a file that is there another length.
 fn resize<D: Disk>(tables: &mut Tables<D>, id: u64, file: FileRecord, length: u64)
     requires id { id < 2 ^ 48 }
-    requires short { length ≤ 1073741824 }
+    requires short { length ≤ MOST_BYTES_OF_A_FILE }
     requires there { find nat_cmp id (tables_now tables.old).files ≡ Some file }
     requires room { staged_of tables.old +
-        (length_needs (tables_now tables.old) id file.length length).records ≤ 65472 }
+        (length_needs (tables_now tables.old) id file.length length).records ≤ MOST_RECORDS }
     ensures tables { tables_now tables.new ≡ resized_in id file length (tables_now tables.old) }
     ensures stages { Stages (length_needs (tables_now tables.old) id file.length length).records tables.old tables.new }
 {

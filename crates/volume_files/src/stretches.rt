@@ -4,7 +4,9 @@
 ghost use Rattle.std.specs.Prelude.{◌≡◌, ◌≤◌, ◌<◌, ◌+◌, ◌*◌, ◌/◌, ◌%◌, ℕ, length, slice_index, Some, IfOk, IfSome, IsSomeAnd, IsErrOf, OnErr};
 ghost use Rattle.std.specs.FinMap.{find};
 ghost use Rattle.vdisk.specs.Causes.{Rose};
+ghost use Rattle.plain_volume.specs.declared.limits.TheConstants.{MOST_BYTES_OF_A_FILE};
 ghost use Rattle.table_records.specs.Keys.{pair_cmp};
+ghost use Rattle.volume_inside.specs.declared.layout.TheConstants.{CLUSTER_BYTES};
 ghost use Rattle.volume_inside.specs.Rules.{ExtentsHold};
 ghost use Rattle.volume_inside.specs.Typed.{Typed};
 ghost use Rattle.volume_tables.specs.Tables.{tables_now, inside_now, disk_of, clusters_in, IsTables};
@@ -28,15 +30,15 @@ pub(crate) struct Stretch {
 
 /// The extent of the block of a file in which a place lies.
 pub(crate) fn extent_at<D: Disk>(tables: &Tables<D>, file: u64, place: u64) -> Option<Extent>
-    requires low { place ≤ 1073741824 }
-    ensures { result ≡ find pair_cmp (file, place / 4096) (tables_now tables.now).extents }
+    requires low { place ≤ MOST_BYTES_OF_A_FILE }
+    ensures { result ≡ find pair_cmp (file, place / CLUSTER_BYTES) (tables_now tables.now).extents }
 {
     tables.get_extent((file, (place / BLOCK) as u32))
 }
 
 /// How many bytes of its block an extent names, if it names the cluster at a place of the disk; else 0.
 fn bytes_beside(extent: Option<Extent>, end: u64) -> usize
-    ensures { 0 < result → IsSomeAnd extent (λ e. (e.valid ≡ result) × (4096 * e.cluster ≡ end)) }
+    ensures { 0 < result → IsSomeAnd extent (λ e. (e.valid ≡ result) × (CLUSTER_BYTES * e.cluster ≡ end)) }
 {
     match extent {
         Some(beside) if BLOCK * beside.cluster as u64 == end => usize::from(beside.valid),
@@ -54,14 +56,14 @@ fn stretch_held<D: Disk>(
     most: usize,
 ) -> Stretch
     requires extents { let t = tables_now tables.now in ExtentsHold (clusters_in tables.now) t.files t.extents }
-    requires first { find pair_cmp (file, place / 4096) (tables_now tables.now).extents ≡ Some first }
-    requires held { place % 4096 < first.valid }
+    requires first { find pair_cmp (file, place / CLUSTER_BYTES) (tables_now tables.now).extents ≡ Some first }
+    requires held { place % CLUSTER_BYTES < first.valid }
     requires some { 0 < most }
-    requires low { place + most ≤ 1073741824 }
+    requires low { place + most ≤ MOST_BYTES_OF_A_FILE }
     ensures is { IsStretch (tables_now tables.now) file place most result }
-    ensures within { 4096 * first.cluster + place % 4096 + result.count ≤ 4096 * clusters_in tables.now }
+    ensures within { CLUSTER_BYTES * first.cluster + place % CLUSTER_BYTES + result.count ≤ CLUSTER_BYTES * clusters_in tables.now }
     ensures lie { (k : ℕ) → k < result.count → byte_at (inside_now tables.now) file (place + k) ≡
-        slice_index (disk_of tables.now).image (4096 * first.cluster + place % 4096 + k) }
+        slice_index (disk_of tables.now).image (CLUSTER_BYTES * first.cluster + place % CLUSTER_BYTES + k) }
 {
     let from = place % BLOCK;
     let start = BLOCK * first.cluster as u64 + from;
@@ -88,10 +90,10 @@ fn read_held<D: Disk>(
     out: &mut [u8],
 ) -> Result<Stretch, Fault>
     requires extents { let t = tables_now tables.old in ExtentsHold (clusters_in tables.old) t.files t.extents }
-    requires first { find pair_cmp (file, place / 4096) (tables_now tables.old).extents ≡ Some first }
-    requires held { place % 4096 < first.valid }
+    requires first { find pair_cmp (file, place / CLUSTER_BYTES) (tables_now tables.old).extents ≡ Some first }
+    requires held { place % CLUSTER_BYTES < first.valid }
     requires some { 0 < length out.old }
-    requires low { place + length out.old ≤ 1073741824 }
+    requires low { place + length out.old ≤ MOST_BYTES_OF_A_FILE }
     ensures is { IfOk result (IsStretch (tables_now tables.old) file place (length out.old)) }
     ensures bytes { (stored : Typed) → IsTables tables.old stored →
         IfOk result (λ s. HasBytes (inside_now tables.old) file place s.count out.new) }
@@ -114,10 +116,10 @@ fn zero_rest<D: Disk>(
     extent: Option<Extent>,
     out: &mut [u8],
 ) -> Stretch
-    requires extent { extent ≡ find pair_cmp (file, place / 4096) (tables_now tables.now).extents }
-    requires behind { IfSome extent (λ e. e.valid ≤ place % 4096) }
+    requires extent { extent ≡ find pair_cmp (file, place / CLUSTER_BYTES) (tables_now tables.now).extents }
+    requires behind { IfSome extent (λ e. e.valid ≤ place % CLUSTER_BYTES) }
     requires some { 0 < length out.old }
-    requires low { place + length out.old ≤ 1073741824 }
+    requires low { place + length out.old ≤ MOST_BYTES_OF_A_FILE }
     ensures is { IsStretch (tables_now tables.now) file place (length out.old) result }
     ensures bytes { HasBytes (inside_now tables.now) file place result.count out.new }
 {
@@ -141,9 +143,9 @@ pub(crate) fn read_stretch<D: Disk>(
     out: &mut [u8],
 ) -> Result<Stretch, Fault>
     requires extents { let t = tables_now tables.old in ExtentsHold (clusters_in tables.old) t.files t.extents }
-    requires extent { extent ≡ find pair_cmp (file, place / 4096) (tables_now tables.old).extents }
+    requires extent { extent ≡ find pair_cmp (file, place / CLUSTER_BYTES) (tables_now tables.old).extents }
     requires some { 0 < length out.old }
-    requires low { place + length out.old ≤ 1073741824 }
+    requires low { place + length out.old ≤ MOST_BYTES_OF_A_FILE }
     ensures is { IfOk result (IsStretch (tables_now tables.old) file place (length out.old)) }
     ensures bytes { (stored : Typed) → IsTables tables.old stored →
         IfOk result (λ s. HasBytes (inside_now tables.old) file place s.count out.new) }

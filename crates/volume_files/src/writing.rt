@@ -52,8 +52,8 @@ fn make_room_for_write<D: Disk>(
     requires running { stopped tables.old ≡ false }
     requires sound { IsSound tables.old }
     requires some { 0 < count }
-    requires short { count ≤ 1048576 }
-    requires within { at + count ≤ 1073741824 }
+    requires short { count ≤ MOST_BYTES_OF_A_CALL }
+    requires within { at + count ≤ MOST_BYTES_OF_A_FILE }
     ensures refused { IfErr result (IsWanting tables.old tables.new
         (write_needs (tables_now tables.old) file at count)) }
     ensures none { OnOk result (wanting tables.old (write_needs (tables_now tables.old) file at count) ≡ None) }
@@ -91,8 +91,8 @@ fn write_with_room<D: Disk>(
     requires sound { IsSound tables.old }
     requires there { IsSome (find nat_cmp file (tables_now tables.old).files) }
     requires some { 0 < length bytes.now }
-    requires short { length bytes.now ≤ 1048576 }
-    requires within { at + length bytes.now ≤ 1073741824 }
+    requires short { length bytes.now ≤ MOST_BYTES_OF_A_CALL }
+    requires within { at + length bytes.now ≤ MOST_BYTES_OF_A_FILE }
     requires own { AreOwnBeside (tables_now tables.old) file at (length bytes.now) }
     requires room { IsRoomFor tables.old (38 + 55 * touched at (length bytes.now)) (touched at (length bytes.now)) }
     requires fits { checkpoint_of tables.old +
