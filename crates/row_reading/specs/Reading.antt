@@ -14,13 +14,15 @@ use Rattle.volume_inside.specs.Chunks.{own_chunk, chunk, chunks_at, length_of}
 use Rattle.volume_inside.specs.ChunkTables.{ChunkTables}
 use Rattle.volume_inside.specs.Entries.{Each}
 use Rattle.volume_inside.specs.Layout.{AreData}
+use Rattle.volume_inside.specs.declared.layout.TheConstants.{CLUSTER_BYTES}
+use Rattle.volume_inside.specs.declared.chunk_rules.TheConstants.{MOST_CONTAINER_BYTES}
 use Rattle.volume_inside.specs.Pages.{used_of, page_clusters, content}
 
 -- the bytes of a container can be read: each page as far as it is used is there, and lies in a data cluster of the image
 pub record HasContent (t : ChunkTables) (image : List ℕ) (c : ℕ) : Type 0 where
   pub pages : HasPages t c image
-  pub in_data : AreData (length image / 4096) (page_clusters t.clusters)
-  pub few : used_of t.containers c ≤ 16777216
+  pub in_data : AreData (length image / CLUSTER_BYTES) (page_clusters t.clusters)
+  pub few : used_of t.containers c ≤ MOST_CONTAINER_BYTES
 
 -- the page of a container is in the cluster `first`, and so many from it on are in the clusters beside that
 abbrev pub AreBeside : ChunkTables → ℕ → ℕ → ℕ → ℕ → Type 0

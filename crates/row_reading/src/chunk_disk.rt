@@ -6,6 +6,7 @@ ghost use Rattle.vdisk.specs.Causes.{Rose};
 ghost use Rattle.vdisk.specs.Ranges.{part};
 ghost use Rattle.table_records.specs.Keys.{pair_cmp};
 ghost use Rattle.volume_inside.specs.ChunkTables.{ChunkTables};
+ghost use Rattle.volume_inside.specs.declared.layout.TheConstants.{CLUSTER_BYTES};
 ghost use Rattle.volume_inside.specs.Layout.{IsDataCluster};
 
 use table_records::{Place, Row};
@@ -45,10 +46,10 @@ pub trait ChunkDisk {
     /// Reads bytes of data clusters beside one another, from a place in the first of them on, at once. After a refusal
     /// `out` may hold anything.
     fn read_run(&mut self, first: u32, from: u16, out: &mut [u8]) -> Result<(), Failed>
-        requires in_data { IsDataCluster (length (image self.old) / 4096) first }
-        requires in_image { 4096 * first + from + length out.old ≤ length (image self.old) }
+        requires in_data { IsDataCluster (length (image self.old) / CLUSTER_BYTES) first }
+        requires in_image { CLUSTER_BYTES * first + from + length out.old ≤ length (image self.old) }
         ensures bytes { tells self.old →
-            OnOk result (out.new ≡ part (4096 * first + from) (length out.old) (image self.old)) }
+            OnOk result (out.new ≡ part (CLUSTER_BYTES * first + from) (length out.old) (image self.old)) }
         ensures chunks { chunks self.new ≡ chunks self.old }
         ensures image { image self.new ≡ image self.old }
         ensures tells { tells self.old → tells self.new }

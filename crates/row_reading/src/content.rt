@@ -4,6 +4,7 @@ ghost use Rattle.std.specs.FinMap.{find};
 ghost use Rattle.vdisk.specs.Causes.{Rose};
 ghost use Rattle.vdisk.specs.Ranges.{part};
 ghost use Rattle.table_records.specs.Keys.{pair_cmp};
+ghost use Rattle.volume_inside.specs.declared.layout.TheConstants.{CLUSTER_BYTES};
 ghost use Rattle.volume_inside.specs.Pages.{used_of, content};
 ghost use Rattle.row_reading.specs.Reading.{HasContent, AreBeside};
 
@@ -32,7 +33,7 @@ fn is_in<D: ChunkDisk>(disk: &D, container: u64, index: u32, cluster: u64) -> bo
 /// another.
 fn run_at<D: ChunkDisk>(disk: &D, container: u64, index: u32, most: u32) -> Run
     requires content { HasContent (D.chunks disk.now) (D.image disk.now) container }
-    requires used { 4096 * index < used_of (D.chunks disk.now).containers container }
+    requires used { CLUSTER_BYTES * index < used_of (D.chunks disk.now).containers container }
     requires some { 1 ≤ most }
     requires few { index + most ≤ 4096 }
     ensures some { 1 ≤ result.count }

@@ -19,7 +19,10 @@ pub mod rows;
 mod rules;
 mod superblock;
 
-pub use chunk_rules::{container_holds, page_holds, place_holds, redirect_holds, row_holds};
+pub use chunk_rules::{
+    DATA_ROW, HOT_CONTAINER, MAP_ROW, MOST_CHUNK_BYTES, MOST_CONTAINER_BYTES, MOST_MAP_BYTES,
+    container_holds, page_holds, place_holds, redirect_holds, row_holds,
+};
 pub use layout::{
     CLUSTER_BYTES, JOURNAL_AT, LEAST_CLUSTERS, MOST_CLUSTERS, data_clusters, first_data_cluster,
     half_bytes, is_data_cluster,

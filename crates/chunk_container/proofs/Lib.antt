@@ -1,0 +1,11 @@
+mod Walks
+mod Finds
+mod Ranges
+mod RowRules
+mod RowViews
+mod Calls
+mod Added
+mod Dropped
+mod Redirected
+mod OneRow
+mod Copied

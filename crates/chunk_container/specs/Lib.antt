@@ -1,0 +1,6 @@
+pub mod Open
+pub mod Stores
+pub mod Lending
+pub mod Rows
+pub mod Bases
+pub mod Calls
