@@ -5,11 +5,11 @@ ghost use Rattle.std.specs.Ordering.{nat_cmp};
 ghost use Rattle.std.specs.FinMap.{find};
 ghost use Rattle.vdisk.specs.Causes.{Rose};
 ghost use Rattle.volume_inside.specs.Chunks.{chunk, length_of};
+ghost use Rattle.volume_inside.specs.Rules.{RulesHold};
 ghost use Rattle.volume_inside.specs.Typed.{Typed};
 ghost use Rattle.row_reading.specs.Reading.{IsRangeOf};
 ghost use Rattle.volume_tables.specs.Reads.{ReadsOnly};
-ghost use Rattle.volume_tables.specs.Sound.{IsSound};
-ghost use Rattle.volume_tables.specs.Tables.{tables_now, disk_of, IsTables};
+ghost use Rattle.volume_tables.specs.Tables.{tables_now, clusters_in, disk_of, IsTables};
 ghost use Rattle.chunk_container.specs.Bases.{bases_now};
 
 use crate::store::Store;
@@ -25,7 +25,7 @@ impl<D: Disk> Store<D> {
     ///
     /// The faults: `Failed`, or `Lost` where no copy has the digest.
     pub fn read_row(&mut self, id: u64, from: u32, out: &mut [u8]) -> Result<(), RowFault>
-        requires sound { IsSound (tables_of self.old) }
+        requires rules { RulesHold (clusters_in (tables_of self.old)) (tables_now (tables_of self.old)) }
         requires there { IsSome (find nat_cmp id (tables_now (tables_of self.old)).chunks.rows) }
         requires within { from + length out.old ≤ length_of (tables_now (tables_of self.old)).chunks.rows id }
         ensures bytes { (stored : Typed) → IsTables (tables_of self.old) stored →

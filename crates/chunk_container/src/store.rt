@@ -1,8 +1,8 @@
 //! The store of chunks and maps over the tables of a volume.
 
 ghost use Rattle.std.specs.Prelude.{◌≡◌};
-ghost use Rattle.volume_tables.specs.Sound.{IsSound};
-ghost use Rattle.volume_tables.specs.Tables.{tables_now};
+ghost use Rattle.volume_inside.specs.Rules.{RulesHold};
+ghost use Rattle.volume_tables.specs.Tables.{tables_now, clusters_in};
 ghost use Rattle.chunk_container.specs.Open.{none_open, last_containers};
 
 use crate::containers::OpenContainers;
@@ -23,7 +23,7 @@ impl<D: Disk> Store<D> {
 
     /// The store over some tables. The container of each kind with the greatest id is open. It takes no memory.
     pub fn new(tables: Tables<D>) -> Store<D>
-        requires { IsSound tables }
+        requires { RulesHold (clusters_in tables) (tables_now tables) }
         ensures tables { tables_of result ≡ tables }
         ensures open { open_in result ≡ last_containers (tables_now tables).chunks.containers }
     {

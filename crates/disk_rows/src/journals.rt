@@ -1,6 +1,6 @@
 // Rows over journals: the steps by their names.
 use crate::session::Session;
-use crate::{images, journal, replays};
+use crate::{images, journal, replays, stored};
 use row_files::{Answers, Asked, RowFault, Steps, Tally};
 use std::alloc::Global;
 
@@ -34,6 +34,8 @@ fn take_journal(
         b"map" => journal::map(session, asked, answers),
         b"staged" => journal::counts(session, answers),
         b"data" => journal::data(session, asked, answers),
+        b"volume" => stored::make(session),
+        b"row" => stored::row(session, asked, answers),
         _ => Err(RowFault::NoQuestion),
     }
 }

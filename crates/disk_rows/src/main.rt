@@ -17,6 +17,7 @@ mod memory;
 mod replays;
 mod session;
 mod settings;
+mod stored;
 mod streams;
 mod torn;
 
@@ -50,7 +51,7 @@ fn told(
 ) -> Result<String, RowFault> {
     let mut tally = Tally::new(rt.alloc());
     match path {
-        "journal.rows" | "limits.rows" | "opens.rows" | "stops.rows" => {
+        "journal.rows" | "limits.rows" | "opens.rows" | "stops.rows" | "stored.rows" => {
             make_steps(rt.alloc(), file, &mut tally)?;
         }
         _ => ask(rt, path, file, &mut tally)?,

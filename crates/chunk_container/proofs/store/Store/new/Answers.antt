@@ -35,9 +35,9 @@ loop-next-init g c =
     record {
       opened = λ i. opened_by (c.none-opened.ensures i) (first i);
       kinds = subst (λ (es : List (ℕ × Container)). Each (λ id b. 1 ≤ b.kind) es) (sym first)
-          (each_weaker _ _ (all t) (λ id b holds. holds.own.some_kind) c.requires.rules.chunks.containers.containers);
+          (each_weaker _ _ (all t) (λ id b holds. holds.own.some_kind) c.requires.chunks.containers.containers);
       known = subst (λ (es : List (ℕ × Container)). Each (λ id b. b.kind ≤ 3) es) (sym first)
-          (each_weaker _ _ (all t) (λ id b holds. holds.own.kind) c.requires.rules.chunks.containers.containers);
+          (each_weaker _ _ (all t) (λ id b holds. holds.own.kind) c.requires.chunks.containers.containers);
     }
 
 -- what is left once an entry was opened
