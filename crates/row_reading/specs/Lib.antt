@@ -1,1 +1,2 @@
+pub mod BaseReads
 pub mod Reading

@@ -6,8 +6,9 @@ ghost use Rattle.sha2.specs.Sha256.{sha256};
 ghost use Rattle.vdisk.specs.Causes.{Rose};
 ghost use Rattle.vdisk.specs.Ranges.{part};
 ghost use Rattle.table_records.specs.Keys.{pair_cmp};
-ghost use Rattle.volume_inside.specs.Chunks.{if_sound, chunks_at};
+ghost use Rattle.volume_inside.specs.Chunks.{if_sound, chunk, chunks_at};
 ghost use Rattle.volume_inside.specs.Pages.{used_of, content};
+ghost use Rattle.row_reading.specs.BaseReads.{ReadsAlone, bytes_of_text, IsTextWithin};
 ghost use Rattle.row_reading.specs.Reading.{HasContent, IsReadable, IsPicked, IsTextOf, LiesIfSome, bytes_if_some};
 
 use crate::chunk_disk::ChunkDisk;
@@ -15,6 +16,14 @@ use crate::content::read_content;
 use sha2::{Digest, Sha256};
 use table_records::{Place, Row};
 use vdisk::Failed;
+
+/// Where the bytes of a chunk lie.
+#[derive(Clone, Copy)]
+pub(crate) struct Text {
+    pub place: Place,
+    /// In bytes.
+    pub length: u32,
+}
 
 /// How many bytes are hashed at once.
 const PIECE_BYTES: u32 = 16_384;
@@ -140,4 +149,26 @@ pub(crate) fn text_of<D: ChunkDisk>(disk: &D, id: u64) -> (u64, Row)
         return (id, row);
     }
     (row.redirect, disk.get_row(row.redirect).unwrap())
+}
+
+/// Where the bytes of a row's chunk lie, if it is not lost. Each copy is hashed once at most.
+pub(crate) fn find_text<D: ChunkDisk>(disk: &mut D, id: u64) -> Result<Option<Text>, Failed>
+    requires readable { IsReadable (D.chunks disk.old) (D.image disk.old) }
+    ensures is { D.tells disk.old → IfOk result (λ text. chunk (chunks_at (D.chunks disk.old) (D.image disk.old)) id
+        ≡ bytes_of_text (D.chunks disk.old) (D.image disk.old) text) }
+    ensures lies { IfOk result (IsTextWithin (D.chunks disk.old)) }
+    ensures reads { ReadsAlone ⟦<D as ChunkDisk>⟧ disk.old disk.new }
+    ensures failed { OnErr result (Rose (D.faults disk.old) (D.faults disk.new)) }
+{
+    if disk.get_row(id).is_none() {
+        return Ok(None);
+    }
+    let (own, row) = text_of(disk, id);
+    match sound_place(disk, own, &row)? {
+        None => Ok(None),
+        Some(place) => {
+            let length = row.length;
+            Ok(Some(Text { place, length }))
+        }
+    }
 }

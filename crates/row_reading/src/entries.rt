@@ -25,7 +25,7 @@ fn entry_holds<D: ChunkDisk>(disk: &D, entry: Entry) -> bool
 }
 
 /// The entry of this number, counted from 0.
-fn entry_at(bytes: &[u8], index: usize) -> Entry
+pub(crate) fn entry_at(bytes: &[u8], index: usize) -> Entry
     requires { ENTRY_BYTES * index + ENTRY_BYTES ≤ length bytes.now }
     ensures { result ≡ entry_of (take ENTRY_BYTES (drop (ENTRY_BYTES * index) bytes.now)) }
 {

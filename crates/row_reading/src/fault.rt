@@ -1,4 +1,4 @@
-// Why rows and bases are refused.
+// Why rows, bases and cells are refused.
 
 use thiserror::Error;
 
@@ -19,6 +19,17 @@ pub enum BaseFault {
     /// Its map breaks the rule of maps.
     #[error("the map of a file breaks its rule")]
     Broken,
+    /// The device failed.
+    #[error("the device failed")]
+    Failed,
+}
+
+/// Why cells of the base of a file are not read.
+#[derive(Clone, Copy, Debug, PartialEq, Eq, Error)]
+pub enum CellFault {
+    /// The cell at this place of the file is lost.
+    #[error("the cell at {0} is lost")]
+    Lost(u64),
     /// The device failed.
     #[error("the device failed")]
     Failed,

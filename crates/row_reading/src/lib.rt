@@ -4,6 +4,7 @@
 //! clusters, and those of clusters that lie beside one another are read at once. Nothing here takes memory.
 #![tactic(auto)]
 
+mod base_reads;
 mod bases;
 mod chunk_disk;
 mod content;
@@ -12,10 +13,13 @@ mod entries;
 mod fault;
 pub mod laws;
 mod reading;
+mod wanted;
 
+pub use base_reads::read_base;
 pub use bases::check_base;
 pub use chunk_disk::ChunkDisk;
 pub use content::read_content;
-pub use fault::{BaseFault, RowFault};
+pub use fault::{BaseFault, CellFault, RowFault};
 pub use reading::read_row;
 pub use vdisk::Failed;
+pub use wanted::{EachCell, Wanted};

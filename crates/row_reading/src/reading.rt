@@ -100,7 +100,7 @@ fn read_part<D: ChunkDisk>(
 }
 
 /// Reads bytes of a row, as `read_row` does, and says whether a copy has the digest.
-fn read_found<D: ChunkDisk>(
+pub(crate) fn read_found<D: ChunkDisk>(
     disk: &mut D,
     id: u64,
     row: &Row,
