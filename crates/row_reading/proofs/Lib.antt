@@ -1,3 +1,4 @@
+pub mod Cells
 pub mod Readable
 pub mod Runs
 pub mod Sums

@@ -17,7 +17,7 @@ use Rattle.volume_inside.specs.Pages.{used_of, page_length, page_bytes, page, pa
 use Rattle.volume_inside.proofs.BaseAppended.{length-content}
 use Rattle.row_reading.specs.Reading.{HasContent, AreBeside}
 
-get_or-part : (at n : ℕ) (image : List ℕ) (k : ℕ) → k < n → get_or (part at n image) k 0 ≡ get_or image (at + k) 0
+pub get_or-part : (at n : ℕ) (image : List ℕ) (k : ℕ) → k < n → get_or (part at n image) k 0 ≡ get_or image (at + k) 0
 get_or-part at n image k low = get_or-take n (drop at image) k 0 low ∙ get_or-drop at image k 0
 
 -- the byte at a place of a container

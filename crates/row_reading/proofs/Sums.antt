@@ -25,7 +25,7 @@ module _ (P : Entry → Type 0) where
   all_before [] back all = tt
   all_before (e ∷ front) back all = (all.0, all_before front back all.1)
 
-total_joined : (front back : List Entry) → total_length (front ++ back) ≡ total_length front + total_length back
+pub total_joined : (front back : List Entry) → total_length (front ++ back) ≡ total_length front + total_length back
 total_joined [] back = omega arith
 total_joined (e ∷ front) back = let rest = total_joined front back in omega (arith, rest)
 
@@ -56,7 +56,7 @@ module _ (rows : List (ℕ × Row)) (law : AreJoined) (n : ℕ) (front back : Li
       (subst (λ (es : List Entry). AllEntries (EntryHolds rows) es) (law n front back size) all))
 
 -- one entry
-one_entry : (bytes : List ℕ) → length bytes ≡ 12 → entries_in bytes ≡ entry_of bytes ∷ []
+pub one_entry : (bytes : List ℕ) → length bytes ≡ 12 → entries_in bytes ≡ entry_of bytes ∷ []
 one_entry bytes size =
     let count : length bytes / 12 ≡ 1 = omega (arith, size) in
     ap (λ (n : ℕ). first_entries n bytes) count
@@ -75,7 +75,7 @@ entry_broken rows bytes size never all =
     never here.0
 
 -- no entry
-none_left : (bytes : List ℕ) → length bytes < 12 → entries_in bytes ≡ []
+pub none_left : (bytes : List ℕ) → length bytes < 12 → entries_in bytes ≡ []
 none_left bytes size =
     let count : length bytes / 12 ≡ 0 = omega (arith, size) in
     ap (λ (n : ℕ). first_entries n bytes) count

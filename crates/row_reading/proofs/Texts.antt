@@ -1,7 +1,7 @@
 -- Copies that have the digest of their row, and the rows whose copies are read.
-use Rattle.std.specs.Prelude.{◌≡◌, ◌≤◌, ◌+◌, ℕ, Bool, true, false, cond, List, [], ◌∷◌, Option, Some, None, IsSome, IsSomeAnd, IsTrue}
+use Rattle.std.specs.Prelude.{◌≡◌, ◌≤◌, ◌+◌, ℕ, Bool, true, false, cond, List, [], ◌∷◌, Option, Some, None, IsSome, IsSomeAnd, IsTrue, length, drop}
 use Rattle.std.specs.Prelude.{if◌then◌else◌, refl}
-use Rattle.std.proofs.Common.{◌∙◌, ap, sym, subst, arith}
+use Rattle.std.proofs.Common.{◌∙◌, ap, sym, subst, arith, length-take}
 use Rattle.std.specs.declared.cmp.Ordering.{Ordering}
 use Rattle.std.specs.declared.cmp.Ordering.TheVariants.{Less, Equal, Greater}
 use Rattle.std.specs.Ordering.{nat_cmp, is_eq}
@@ -161,3 +161,37 @@ module _ (t : ChunkTables) (image : List ℕ) (id copy : ℕ) (row : Row) (there
   copy_found false same sound =
       copy_unsound t image id copy row there p found
       (λ digest. let clash : false ≡ true = sound (subst (λ (x : List ℕ). sha256 x ≡ row.digest) (sym whole) digest) in cc)
+
+-- ---- a chunk is no longer than its row
+
+abbrev pub IsShort : ℕ → Option (List ℕ) → Type 0
+IsShort n None = Unit {0}
+IsShort n (Some bytes) = length bytes ≤ n
+
+short_copy : (t : ChunkTables) (k : CopyKey) (image : List ℕ) (o : Option Place) → IsShort (length_of t.rows k.0) (some_copy t k image o)
+short_copy t k image None = tt
+short_copy t k image (Some p) = omega (arith, length-take (length_of t.rows k.0) (drop p.offset (content t p.container image)))
+
+short_sound : (n : ℕ) (digest : List ℕ) (o : Option (List ℕ)) → IsShort n o → IsShort n (if_sound digest o)
+short_sound n digest None short = tt
+short_sound n digest (Some bytes) short = by (is_sound digest bytes)
+  where
+    by : (b : Bool) → IsShort n (if b then Some bytes else None)
+    by true = short
+    by false = tt
+
+short_else : (n : ℕ) (one two : Option (List ℕ)) → IsShort n one → IsShort n two → IsShort n (or_else one two)
+short_else n None two first second = second
+short_else n (Some bytes) two first second = first
+
+pub short_own : (t : ChunkTables) (image : List ℕ) (id : ℕ) (row : Row) → find nat_cmp id t.rows ≡ Some row
+    → IsShort row.length (own_chunk (chunks_at t image) id row)
+short_own t image id row there =
+    let short : (copy : ℕ) → IsShort row.length (find pair_cmp (id, copy) (copies_of t t.places image)) =
+    λ copy. subst (λ (o : Option (List ℕ)). IsShort row.length o) (sym (find-copies t (id, copy) t.places image))
+    (subst (λ (n : ℕ). IsShort n (some_copy t (id, copy) image (find pair_cmp (id, copy) t.places))) (ap length_or_none there)
+    (short_copy t (id, copy) image (find pair_cmp (id, copy) t.places))) in
+    short_else row.length (if_sound row.digest (find pair_cmp (id, 0) (copies_of t t.places image)))
+    (if_sound row.digest (find pair_cmp (id, 1) (copies_of t t.places image)))
+    (short_sound row.length row.digest (find pair_cmp (id, 0) (copies_of t t.places image)) (short 0))
+    (short_sound row.length row.digest (find pair_cmp (id, 1) (copies_of t t.places image)) (short 1))

@@ -1,5 +1,5 @@
 // The cells that the base of a file gives are read.
-ghost use Rattle.std.specs.Prelude.{◌≡◌, ◌≤◌, ◌<◌, ◌+◌, ◌*◌, ◌/◌, ◌%◌, ◌^◌, ◌-◌, ℕ, length, IfOk, OnOk, OnErr, IsErrOf, Some};
+ghost use Rattle.std.specs.Prelude.{◌≡◌, ◌≤◌, ◌<◌, ◌+◌, ◌*◌, ◌/◌, ◌%◌, ◌^◌, ◌-◌, ℕ, length, slice_index, IfOk, OnOk, OnErr, IsErrOf, Some};
 ghost use Rattle.vdisk.specs.Causes.{Rose};
 ghost use Rattle.stream_map.specs.Pieces.{entries_in, total_length};
 ghost use Rattle.volume_inside.specs.Bases.{base_cell};
@@ -22,6 +22,15 @@ use vdisk::Failed;
 
 /// How many entries are read at once.
 const READ_ENTRIES: u32 = 1_024;
+
+/// Writes zeros from an index on.
+fn clear_from(out: &mut [u8], from: usize)
+    requires { from ≤ length out.old }
+    ensures before { (k : ℕ) → k < from → slice_index out.new k ≡ slice_index out.old k }
+    ensures behind { (k : ℕ) → from ≤ k → slice_index out.new k ≡ 0 }
+{
+    out[from..].fill(0);
+}
 
 /// Reads bytes of a row's chunk from an offset in it on, and zeros behind its end, and says whether there is a chunk: it
 /// is lost where there is no such row, or where no copy has the digest. After a refusal `out` may hold anything.
@@ -46,7 +55,7 @@ fn read_chunk<D: ChunkDisk>(
     if !read_found(disk, own, &row, start, &mut out[..count])? {
         return Ok(false);
     }
-    out[count..].fill(0);
+    clear_from(out, count);
     Ok(true)
 }
 

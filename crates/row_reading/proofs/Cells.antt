@@ -1,0 +1,95 @@
+-- Cells of bases, read piece by piece.
+use Rattle.std.specs.Prelude.{◌≡◌, ◌≤◌, ◌<◌, ◌+◌, ◌*◌, ◌-◌, ◌/◌, min, ℕ, Bool, true, false, List, [], ◌∷◌, ◌++◌, length, take, drop, get_or}
+use Rattle.std.specs.Prelude.{Option, Some, None, refl}
+use Rattle.std.proofs.Common.{◌∙◌, ap, sym, subst, arith, inl, inr}
+use Rattle.std.proofs.lemmas.Bool.{cases_lt}
+use Rattle.std.proofs.lemmas.List.{get_or_past}
+use Rattle.plain_volume.specs.Volume.{Cell, Byte, Lost}
+use Rattle.volume_inside.specs.BaseCells.{piece_cell}
+use Rattle.row_reading.specs.BaseReads.{AreRead, IsKeptBefore, IsFirstLost, IsIn, AreCellsOf}
+use Rattle.row_reading.specs.Reading.{IsRangeOf}
+use Rattle.row_reading.proofs.Runs.{get_or-part}
+use Rattle.row_reading.proofs.Texts.{IsShort}
+
+-- ---- one chunk
+
+-- the bytes of a chunk from an offset in it on, as far as it goes, and zeros behind them
+pub cells_of_chunk : (o : Option (List ℕ)) (n from start count : ℕ) (piece out : List ℕ) → IsShort n o → start ≡ min from n
+    → count ≡ min (n - start) (length out) → IsRangeOf o start count piece
+    → ((k : ℕ) → k < count → get_or out k 0 ≡ get_or piece k 0) → ((k : ℕ) → count ≤ k → get_or out k 0 ≡ 0)
+    → AreCellsOf o from true out
+cells_of_chunk None n from start count piece out short begins counts read front zeros = absurd read
+cells_of_chunk (Some bytes) n from start count piece out short begins counts read front zeros = λ k low.
+    elim (cases_lt k count) [
+      | inl here ↦
+          let place : start + k ≡ from + k = omega (arith, begins, counts, here) in
+          let byte : get_or out k 0 ≡ get_or bytes (from + k) 0 =
+          front k here ∙ ap (λ (x : List ℕ). get_or x k 0) read ∙ get_or-part start count bytes k here
+          ∙ ap (λ (p : ℕ). get_or bytes p 0) place in
+          ap Byte (sym byte)
+      | inr behind ↦
+          let past : length bytes ≤ from + k = omega (arith, short, begins, counts, behind, low) in
+          ap Byte (get_or_past bytes (from + k) 0 past ∙ sym (zeros k behind))
+    ]
+
+-- ---- ranges of cells, one after the other
+
+module _ (cells : ℕ → Cell) (W : ℕ → Type 0) (at : ℕ) where
+  pub read_then : (a b c : ℕ) (old new : List ℕ) → length new ≡ length old → AreRead cells W a b at old → IsKeptBefore b at old new
+      → AreRead cells W b c at new → AreRead cells W a c at new
+  read_then a b c old new size before kept after k low from to wanted =
+      elim (cases_lt (at + k) b) [
+        | inl here ↦ before k (omega (arith, low, size)) from here wanted ∙ sym (ap Byte (kept k here))
+        | inr behind ↦ after k low behind to wanted
+      ]
+
+  read_held : (a b p : ℕ) (out : List ℕ) → AreRead cells W a b at out → a ≤ p → p < b → at ≤ p → p < at + length out → W p
+      → cells p ≡ Lost → ⊥
+  read_held a b p out read from to low high wanted lost =
+      let place : at + (p - at) ≡ p = omega (arith, low) in
+      let inside : p - at < length out = omega (arith, low, high) in
+      let above : a ≤ at + (p - at) = omega (arith, place, from) in
+      let below : at + (p - at) < b = omega (arith, place, to) in
+      let byte : cells (at + (p - at)) ≡ Byte (get_or out (p - at) 0) =
+      read (p - at) inside above below (subst (λ (x : ℕ). W x) (sym place) wanted) in
+      let clash : Byte (get_or out (p - at) 0) ≡ Lost = sym byte ∙ ap (λ (x : ℕ). cells x) place ∙ lost in
+      cc
+
+  pub lost_then : (a b c n q : ℕ) (out : List ℕ) → length out ≡ n → a ≤ b → AreRead cells W a b at out
+      → IsFirstLost cells (IsIn W at n) b c q → IsFirstLost cells (IsIn W at n) a c q
+  lost_then a b c n q out size order read first = record {
+    behind = omega (arith, order, first.behind);
+    within = first.within;
+    wanted = first.wanted;
+    lost = first.lost;
+    before = λ p from to wanted lost. elim (cases_lt p b) [
+      | inl here ↦ read_held a b p out read from here wanted.0 (omega (arith, wanted.1, size)) wanted.2 lost
+      | inr behind ↦ first.before p behind to wanted lost
+    ];
+  }
+
+-- the same of other words for the same cells and the same places
+module _ (cells other : ℕ → Cell) (V W : ℕ → Type 0) (a b : ℕ) (same : (p : ℕ) → a ≤ p → p < b → other p ≡ cells p)
+    (there : (p : ℕ) → W p → V p) where
+  pub read_as : (at : ℕ) (out : List ℕ) → AreRead cells V a b at out → AreRead other W a b at out
+  read_as at out read k low from to wanted = same (at + k) from to ∙ read k low from to (there (at + k) wanted)
+
+  pub lost_as : (at n q : ℕ) → ((p : ℕ) → V p → W p) → IsFirstLost cells (IsIn V at n) a b q → IsFirstLost other (IsIn W at n) a b q
+  lost_as at n q back first = record {
+    behind = first.behind;
+    within = first.within;
+    wanted = (first.wanted.0, first.wanted.1, back q first.wanted.2);
+    lost = same q first.behind first.within ∙ first.lost;
+    before = λ p from to wanted lost. first.before p from to (wanted.0, wanted.1, there p wanted.2)
+        (sym (same p from (omega (arith, to, first.within))) ∙ lost);
+  }
+
+-- the first one of fewer places is the first one of more
+pub lost_within : (cells : ℕ → Cell) (W : ℕ → Type 0) (a b c q : ℕ) → b ≤ c → IsFirstLost cells W a b q → IsFirstLost cells W a c q
+lost_within cells W a b c q order first = record {
+  behind = first.behind;
+  within = omega (arith, order, first.within);
+  wanted = first.wanted;
+  lost = first.lost;
+  before = first.before;
+}
