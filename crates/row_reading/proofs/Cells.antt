@@ -6,8 +6,11 @@ use Rattle.std.proofs.lemmas.Bool.{cases_lt}
 use Rattle.std.proofs.lemmas.List.{get_or_past}
 use Rattle.plain_volume.specs.Volume.{Cell, Byte, Lost}
 use Rattle.volume_inside.specs.BaseCells.{piece_cell}
-use Rattle.row_reading.specs.BaseReads.{AreRead, IsKeptBefore, IsFirstLost, IsIn, AreCellsOf}
-use Rattle.row_reading.specs.Reading.{IsRangeOf}
+use Rattle.volume_inside.specs.Chunks.{chunks_at}
+use Rattle.volume_inside.specs.ChunkTables.{ChunkTables}
+use Rattle.row_reading.specs.declared.chunk_disk.ChunkDisk.{Ghosts}
+use Rattle.row_reading.specs.BaseReads.{ReadsAlone, AreRead, IsKeptBefore, IsFirstLost, IsIn, AreCellsOf}
+use Rattle.row_reading.specs.Reading.{IsRangeOf, IsReadable}
 use Rattle.row_reading.proofs.Runs.{get_or-part}
 use Rattle.row_reading.proofs.Texts.{IsShort}
 
@@ -93,3 +96,24 @@ lost_within cells W a b c q order first = record {
   lost = first.lost;
   before = first.before;
 }
+
+-- ---- reads, one after the other
+
+module _ {S : Type 0} (d : Ghosts S) where
+  pub reads_then : ((a b c : S) → d.is_from a b → d.is_from b c → d.is_from a c) → (a b c : S) → ReadsAlone d a b → ReadsAlone d b c
+      → ReadsAlone d a c
+  reads_then next a b c one two = record {
+    chunks = two.chunks ∙ one.chunks;
+    image = two.image ∙ one.image;
+    tells = λ tells. two.tells (one.tells tells);
+    from = next a b c one.from two.from;
+    later = omega (arith, one.later, two.later);
+  }
+
+  pub same_bases : (a b : S) → ReadsAlone d a b → chunks_at (d.chunks b) (d.image b) ≡ chunks_at (d.chunks a) (d.image a)
+  same_bases a b reads = λ i. chunks_at (reads.chunks i) (reads.image i)
+
+  pub same_readable : (a b : S) → ReadsAlone d a b → IsReadable (d.chunks a) (d.image a) → IsReadable (d.chunks b) (d.image b)
+  same_readable a b reads readable =
+      subst (λ (t : ChunkTables). IsReadable t (d.image b)) (sym reads.chunks)
+      (subst (λ (x : List ℕ). IsReadable (d.chunks a) x) (sym reads.image) readable)

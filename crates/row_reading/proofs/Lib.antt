@@ -1,4 +1,5 @@
 pub mod Cells
+pub mod PieceCells
 pub mod Readable
 pub mod Runs
 pub mod Sums
