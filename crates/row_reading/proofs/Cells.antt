@@ -46,7 +46,7 @@ module _ (cells : ℕ → Cell) (W : ℕ → Type 0) (at : ℕ) where
         | inr behind ↦ after k low behind to wanted
       ]
 
-  read_held : (a b p : ℕ) (out : List ℕ) → AreRead cells W a b at out → a ≤ p → p < b → at ≤ p → p < at + length out → W p
+  pub read_held : (a b p : ℕ) (out : List ℕ) → AreRead cells W a b at out → a ≤ p → p < b → at ≤ p → p < at + length out → W p
       → cells p ≡ Lost → ⊥
   read_held a b p out read from to low high wanted lost =
       let place : at + (p - at) ≡ p = omega (arith, low) in
@@ -117,3 +117,15 @@ module _ {S : Type 0} (d : Ghosts S) where
   same_readable a b reads readable =
       subst (λ (t : ChunkTables). IsReadable t (d.image b)) (sym reads.chunks)
       (subst (λ (x : List ℕ). IsReadable (d.chunks a) x) (sym reads.image) readable)
+
+-- of the places that bytes stand for, those behind the first
+pub lost_in_range : (cells : ℕ → Cell) (W : ℕ → Type 0) (at n b q : ℕ) → IsFirstLost cells (IsIn W at n) 0 b q
+    → IsFirstLost cells W at (at + n) q
+lost_in_range cells W at n b q first = record {
+  behind = first.wanted.0;
+  within = first.wanted.1;
+  wanted = first.wanted.2;
+  lost = first.lost;
+  before = λ p from to wanted lost.
+      first.before p (omega arith) to (from, omega (arith, to, first.wanted.1), wanted) lost;
+}

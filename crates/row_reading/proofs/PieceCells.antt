@@ -157,3 +157,14 @@ pub cells_of : (joined : AreJoined) (bytes : List ℕ) (i : ℕ) (room : 12 * i 
 cells_of joined bytes i room placed e decoded b begin next p is =
     subst (λ (x : Entry). next ≤ p → p < next + x.length → cell_from b (entries_in bytes) begin p ≡ piece_cell (chunk b x.id) (p - next))
     (sym decoded) (cells_of_entry joined bytes i room placed b begin next p is)
+
+-- the cells of the pieces of entries that were read
+pub cells_of_read : (joined : AreJoined) → IsFront → IsBack → (bytes : List ℕ) (at size done count : ℕ) → at + size ≤ length bytes
+    → 12 * (done + count) ≤ size → (piece : List ℕ) → piece ≡ part (at + 12 * done) (12 * count) bytes → (b c : Bases) → c ≡ b
+    → (begin end p : ℕ) → begin ≡ total_length (entries_in (part at (12 * done) bytes))
+    → end ≡ begin + total_length (entries_in piece) → begin ≤ p → p < end
+    → map_cell b (Some (part at size bytes)) p ≡ cell_from c (entries_in piece) begin p
+cells_of_read joined front back bytes at size done count fits within piece is b c same begin end p begins ends low high =
+    let total = ap (λ (x : List ℕ). total_length (entries_in x)) is in
+    cells_of_some joined bytes at size done count fits within front back b begin p begins low (omega (arith, high, ends, total))
+    ∙ sym (λ i. cell_from (same i) (entries_in (is i)) begin p)

@@ -167,10 +167,10 @@ fn read_map<D: ChunkDisk, W: Wanted<D>>(
         let count = (entries - done).min(READ_ENTRIES);
         let piece = &mut buffer[..ENTRY_BYTES * count as usize];
         let place = text.place.offset + ENTRY_BYTES as u32 * done;
-        if read_content(disk, text.place.container, place, piece).is_err() {
-            return Err(CellFault::Failed);
+        match read_content(disk, text.place.container, place, piece) {
+            Ok(()) => begin = read_pieces(disk, wanted, &*piece, begin, at, out)?,
+            Err(_) => return Err(CellFault::Failed),
         }
-        begin = read_pieces(disk, wanted, &*piece, begin, at, out)?;
         done += count;
     }
     match wanted.first_wanted(disk, begin.max(at).min(end), end) {
