@@ -1,15 +1,18 @@
 -- Cells of bases, read piece by piece.
 use Rattle.std.specs.Prelude.{◌≡◌, ◌≤◌, ◌<◌, ◌+◌, ◌*◌, ◌-◌, ◌/◌, min, ℕ, Bool, true, false, List, [], ◌∷◌, ◌++◌, length, take, drop, get_or}
-use Rattle.std.specs.Prelude.{Option, Some, None, refl}
-use Rattle.std.proofs.Common.{◌∙◌, ap, sym, subst, arith, inl, inr}
+use Rattle.std.specs.Prelude.{Option, Some, None, if◌then◌else◌}
+use Rattle.std.proofs.Common.{◌∙◌, ap, sym, subst, arith, inl, inr, lt-ltb}
 use Rattle.std.proofs.lemmas.Bool.{cases_lt}
 use Rattle.std.proofs.lemmas.List.{get_or_past}
 use Rattle.plain_volume.specs.Volume.{Cell, Byte, Lost}
-use Rattle.volume_inside.specs.BaseCells.{piece_cell}
-use Rattle.volume_inside.specs.Chunks.{chunks_at}
+use Rattle.table_records.specs.declared.records.FileRecord.{FileRecord}
+use Rattle.volume_inside.specs.Bases.{base_cell}
+use Rattle.volume_inside.specs.BaseCells.{piece_cell, map_cell}
+use Rattle.volume_inside.specs.Chunks.{Bases, chunk, chunks_at}
 use Rattle.volume_inside.specs.ChunkTables.{ChunkTables}
 use Rattle.row_reading.specs.declared.chunk_disk.ChunkDisk.{Ghosts}
-use Rattle.row_reading.specs.BaseReads.{ReadsAlone, AreRead, IsKeptBefore, IsFirstLost, IsIn, AreCellsOf}
+use Rattle.row_reading.specs.BaseReads.{ReadsAlone, AreRead, IsKeptBefore, IsFirstLost, IsIn, AreCellsOf, bytes_of_text}
+use Rattle.row_reading.specs.declared.copies.Text.{Text}
 use Rattle.row_reading.specs.Reading.{IsRangeOf, IsReadable}
 use Rattle.row_reading.proofs.Runs.{get_or-part}
 use Rattle.row_reading.proofs.Texts.{IsShort}
@@ -77,15 +80,23 @@ module _ (cells other : ℕ → Cell) (V W : ℕ → Type 0) (a b : ℕ) (same :
   pub read_as : (at : ℕ) (out : List ℕ) → AreRead cells V a b at out → AreRead other W a b at out
   read_as at out read k low from to wanted = same (at + k) from to ∙ read k low from to (there (at + k) wanted)
 
-  pub lost_as : (at n q : ℕ) → ((p : ℕ) → V p → W p) → IsFirstLost cells (IsIn V at n) a b q → IsFirstLost other (IsIn W at n) a b q
-  lost_as at n q back first = record {
+  pub lost_same : (q : ℕ) → ((p : ℕ) → V p → W p) → IsFirstLost cells V a b q → IsFirstLost other W a b q
+  lost_same q back first = record {
     behind = first.behind;
     within = first.within;
-    wanted = (first.wanted.0, first.wanted.1, back q first.wanted.2);
+    wanted = back q first.wanted;
     lost = same q first.behind first.within ∙ first.lost;
-    before = λ p from to wanted lost. first.before p from to (wanted.0, wanted.1, there p wanted.2)
+    before = λ p from to wanted lost. first.before p from to (there p wanted)
         (sym (same p from (omega (arith, to, first.within))) ∙ lost);
   }
+
+-- the same of places that bytes stand for
+pub lost_as : (cells other : ℕ → Cell) (V W : ℕ → Type 0) (a b : ℕ) → ((p : ℕ) → a ≤ p → p < b → other p ≡ cells p)
+    → ((p : ℕ) → W p → V p) → (at n q : ℕ) → ((p : ℕ) → V p → W p) → IsFirstLost cells (IsIn V at n) a b q
+    → IsFirstLost other (IsIn W at n) a b q
+lost_as cells other V W a b same there at n q back =
+    lost_same cells other (IsIn V at n) (IsIn W at n) a b same (λ p in_range. (in_range.0, in_range.1, there p in_range.2)) q
+    (λ p in_range. (in_range.0, in_range.1, back p in_range.2))
 
 -- the first one of fewer places is the first one of more
 pub lost_within : (cells : ℕ → Cell) (W : ℕ → Type 0) (a b c q : ℕ) → b ≤ c → IsFirstLost cells W a b q → IsFirstLost cells W a c q
@@ -129,3 +140,20 @@ lost_in_range cells W at n b q first = record {
   before = λ p from to wanted lost.
       first.before p (omega arith) to (from, omega (arith, to, first.wanted.1), wanted) lost;
 }
+
+-- ---- the base of a file
+
+pub covered_cell : (b : Bases) (file : FileRecord) (p : ℕ) → p < file.covers → base_cell b file p ≡ map_cell b (chunk b file.map_row) p
+unfolding base_cell
+covered_cell b file p low =
+    ap (λ (t : Bool). if t then map_cell b (chunk b file.map_row) p else Byte 0) (lt-ltb p file.covers low)
+
+-- where its map lies in a container, it gives the cells of the map, which later reads see as well
+pub base_of_map : {S : Type 0} (d : Ghosts S) (a b : S) → ReadsAlone d a b → (file : FileRecord) (text : Option Text)
+    → chunk (chunks_at (d.chunks a) (d.image a)) file.map_row ≡ bytes_of_text (d.chunks a) (d.image a) text → (p : ℕ)
+    → p < file.covers → base_cell (chunks_at (d.chunks a) (d.image a)) file p
+    ≡ map_cell (chunks_at (d.chunks b) (d.image b)) (bytes_of_text (d.chunks b) (d.image b) text) p
+base_of_map d a b reads file text spelled p low =
+    covered_cell (chunks_at (d.chunks a) (d.image a)) file p low
+    ∙ ap (λ (o : Option (List ℕ)). map_cell (chunks_at (d.chunks a) (d.image a)) o p) spelled
+    ∙ sym (λ i. map_cell (chunks_at (reads.chunks i) (reads.image i)) (bytes_of_text (reads.chunks i) (reads.image i) text) p)
