@@ -11,7 +11,7 @@ use Rattle.volume_inside.specs.BaseCells.{piece_cell, map_cell}
 use Rattle.volume_inside.specs.Chunks.{Bases, chunk, chunks_at}
 use Rattle.volume_inside.specs.ChunkTables.{ChunkTables}
 use Rattle.row_reading.specs.declared.chunk_disk.ChunkDisk.{Ghosts}
-use Rattle.row_reading.specs.BaseReads.{ReadsAlone, AreRead, IsKeptBefore, IsFirstLost, IsIn, AreCellsOf, bytes_of_text}
+use Rattle.row_reading.specs.BaseReads.{ReadsAlone, AreRead, AreReadFrom, IsFirstIn, IsKeptBefore, IsFirstLost, IsIn, AreCellsOf, bytes_of_text}
 use Rattle.row_reading.specs.declared.copies.Text.{Text}
 use Rattle.row_reading.specs.Reading.{IsRangeOf, IsReadable}
 use Rattle.row_reading.proofs.Runs.{get_or-part}
@@ -128,6 +128,16 @@ module _ {S : Type 0} (d : Ghosts S) where
   same_readable a b reads readable =
       subst (λ (t : ChunkTables). IsReadable t (d.image b)) (sym reads.chunks)
       (subst (λ (x : List ℕ). IsReadable (d.chunks a) x) (sym reads.image) readable)
+
+-- all are read where none is wanted behind those that were
+pub read_to_end : (cells : ℕ → Cell) (V W : ℕ → Type 0) (at begin from end : ℕ) (out : List ℕ) → at + length out ≡ end
+    → ((p : ℕ) → begin ≤ p → at ≤ p → p < end → from ≤ p) → ((p : ℕ) → W p → V p) → AreRead cells W 0 begin at out
+    → IsFirstIn V from end None → AreReadFrom cells W at out
+read_to_end cells V W at begin from end out ends behind there read none k low wanted =
+    elim (cases_lt (at + k) begin) [
+      | inl here ↦ read k low (omega arith) here wanted
+      | inr past ↦ absurd (none (at + k) (behind (at + k) past (omega arith) (omega (arith, low, ends))) (omega (arith, low, ends)) (there (at + k) wanted))
+    ]
 
 -- of the places that bytes stand for, those behind the first
 pub lost_in_range : (cells : ℕ → Cell) (W : ℕ → Type 0) (at n b q : ℕ) → IsFirstLost cells (IsIn W at n) 0 b q

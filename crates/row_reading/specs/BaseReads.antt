@@ -21,13 +21,17 @@ pub record ReadsAlone {S : Type 0} (d : Ghosts S) (old new : S) : Type 0 where
 
 -- the first place, if any, that is wanted from one place up to another
 abbrev pub IsFirstIn : (ℕ → Type 0) → ℕ → ℕ → Option ℕ → Type 0
-IsFirstIn W from to None = (p : ℕ) → from ≤ p → p < to → W p → ⊥
-IsFirstIn W from to (Some first) =
-    (from ≤ first) × (first < to) × W first × ((p : ℕ) → from ≤ p → p < first → W p → ⊥)
+IsFirstIn IsWanted from to None = (p : ℕ) → from ≤ p → p < to → IsWanted p → ⊥
+IsFirstIn IsWanted from to (Some first) =
+    (from ≤ first) × (first < to) × IsWanted first × ((p : ℕ) → from ≤ p → p < first → IsWanted p → ⊥)
 
--- the wanted cells from one place up to another are bytes, those of `out`, which stands for the cells from `at` on
+-- THE WANTED CELLS from `at` on, as many as `out` stands for, are bytes, those of `out`
+abbrev pub AreReadFrom : (ℕ → Cell) → (ℕ → Type 0) → ℕ → List ℕ → Type 0
+AreReadFrom cells IsWanted at out = (k : ℕ) → k < length out → IsWanted (at + k) → cells (at + k) ≡ Byte (get_or out k 0)
+
+-- the same of those of them from one place up to another
 abbrev pub AreRead : (ℕ → Cell) → (ℕ → Type 0) → ℕ → ℕ → ℕ → List ℕ → Type 0
-AreRead cells W from to at out = (k : ℕ) → k < length out → from ≤ at + k → at + k < to → W (at + k)
+AreRead cells IsWanted from to at out = (k : ℕ) → k < length out → from ≤ at + k → at + k < to → IsWanted (at + k)
     → cells (at + k) ≡ Byte (get_or out k 0)
 
 -- what stands for the cells before a place is as it was
@@ -35,16 +39,16 @@ abbrev pub IsKeptBefore : ℕ → ℕ → List ℕ → List ℕ → Type 0
 IsKeptBefore place at old new = (k : ℕ) → at + k < place → get_or new k 0 ≡ get_or old k 0
 
 -- THE FIRST LOST CELL that is wanted, from one place up to another
-pub record IsFirstLost (cells : ℕ → Cell) (W : ℕ → Type 0) (from to q : ℕ) : Type 0 where
+pub record IsFirstLost (cells : ℕ → Cell) (IsWanted : ℕ → Type 0) (from to q : ℕ) : Type 0 where
   pub behind : from ≤ q
   pub within : q < to
-  pub wanted : W q
+  pub wanted : IsWanted q
   pub lost : cells q ≡ Lost
-  pub before : (p : ℕ) → from ≤ p → p < q → W p → cells p ≡ Lost → ⊥
+  pub before : (p : ℕ) → from ≤ p → p < q → IsWanted p → cells p ≡ Lost → ⊥
 
 -- a place that is wanted, of those that so many bytes stand for
 abbrev pub IsIn : (ℕ → Type 0) → ℕ → ℕ → ℕ → Type 0
-IsIn W at n p = (at ≤ p) × (p < at + n) × W p
+IsIn IsWanted at n p = (at ≤ p) × (p < at + n) × IsWanted p
 
 -- the cell at a place of the pieces of entries, of which the first begins at `begin`
 abbrev pub cell_from : Bases → List Entry → ℕ → ℕ → Cell

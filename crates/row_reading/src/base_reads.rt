@@ -1,11 +1,12 @@
 // The cells that the base of a file gives are read.
 ghost use Rattle.std.specs.Prelude.{◌≡◌, ◌≤◌, ◌<◌, ◌+◌, ◌*◌, ◌/◌, ◌%◌, ◌^◌, ◌-◌, ℕ, length, slice_index, IfOk, OnOk, OnErr, IsErrOf, Some};
 ghost use Rattle.vdisk.specs.Causes.{Rose};
+ghost use Rattle.volume_inside.specs.declared.chunk_rules.TheConstants.{ENTRY_BYTES};
 ghost use Rattle.stream_map.specs.Pieces.{entries_in, total_length};
 ghost use Rattle.volume_inside.specs.Bases.{base_cell};
 ghost use Rattle.volume_inside.specs.BaseCells.{piece_cell, map_cell};
 ghost use Rattle.volume_inside.specs.Chunks.{chunk, chunks_at};
-ghost use Rattle.row_reading.specs.BaseReads.{ReadsAlone, AreRead, IsKeptBefore, IsFirstLost, IsIn, cell_from, AreCellsOf, bytes_of_text, IsTextWithin};
+ghost use Rattle.row_reading.specs.BaseReads.{ReadsAlone, AreRead, AreReadFrom, IsKeptBefore, IsFirstLost, IsIn, cell_from, AreCellsOf, bytes_of_text, IsTextWithin};
 ghost use Rattle.row_reading.specs.Reading.{IsReadable};
 
 use crate::chunk_disk::ChunkDisk;
@@ -108,14 +109,14 @@ fn read_pieces<D: ChunkDisk, W: Wanted<D>>(
     out: &mut [u8],
 ) -> Result<u64, CellFault>
     requires readable { IsReadable (D.chunks disk.old) (D.image disk.old) }
-    requires whole { length bytes.now % 12 ≡ 0 }
-    requires pieces { begin + 4294967296 * (length bytes.now / 12) < 2 ^ 63 }
+    requires whole { length bytes.now % ENTRY_BYTES ≡ 0 }
+    requires pieces { begin + 2 ^ 32 * (length bytes.now / ENTRY_BYTES) < 2 ^ 63 }
     requires range { at + length out.old < 2 ^ 64 }
     ensures read { D.tells disk.old → IfOk result (λ next. AreRead
         (cell_from (chunks_at (D.chunks disk.old) (D.image disk.old)) (entries_in bytes.now) begin)
         (W.is_wanted wanted.now disk.old) begin next at out.new) }
     ensures next { IfOk result (λ next. next ≡ begin + total_length (entries_in bytes.now)) }
-    ensures most { IfOk result (λ next. next ≤ begin + 4294967296 * (length bytes.now / 12)) }
+    ensures most { IfOk result (λ next. next ≤ begin + 2 ^ 32 * (length bytes.now / ENTRY_BYTES)) }
     ensures kept { IsKeptBefore begin at out.old out.new }
     ensures lost { D.tells disk.old → (q : ℕ) → IsErrOf result (CellFault.Lost q) → IsFirstLost
         (cell_from (chunks_at (D.chunks disk.old) (D.image disk.old)) (entries_in bytes.now) begin)
@@ -146,11 +147,13 @@ fn read_map<D: ChunkDisk, W: Wanted<D>>(
     requires readable { IsReadable (D.chunks disk.old) (D.image disk.old) }
     requires within { IsTextWithin (D.chunks disk.old) (Some text) }
     requires range { at + length out.old < 2 ^ 64 }
-    ensures read { D.tells disk.old → OnOk result (AreRead
-        (map_cell (chunks_at (D.chunks disk.old) (D.image disk.old)) (bytes_of_text (D.chunks disk.old) (D.image disk.old) (Some text)))
-        (W.is_wanted wanted.now disk.old) at (at + length out.old) at out.new) }
+    ensures read { D.tells disk.old → OnOk result (AreReadFrom
+        (map_cell (chunks_at (D.chunks disk.old) (D.image disk.old))
+        (bytes_of_text (D.chunks disk.old) (D.image disk.old) (Some text)))
+        (W.is_wanted wanted.now disk.old) at out.new) }
     ensures lost { D.tells disk.old → (q : ℕ) → IsErrOf result (CellFault.Lost q) → IsFirstLost
-        (map_cell (chunks_at (D.chunks disk.old) (D.image disk.old)) (bytes_of_text (D.chunks disk.old) (D.image disk.old) (Some text)))
+        (map_cell (chunks_at (D.chunks disk.old) (D.image disk.old))
+        (bytes_of_text (D.chunks disk.old) (D.image disk.old) (Some text)))
         (W.is_wanted wanted.now disk.old) at (at + length out.old) q }
     ensures reads { ReadsAlone ⟦<D as ChunkDisk>⟧ disk.old disk.new }
     ensures failed { IsErrOf result CellFault.Failed → Rose (D.faults disk.old) (D.faults disk.new) }
@@ -192,9 +195,9 @@ pub fn read_base<D: ChunkDisk, W: Wanted<D>>(
 ) -> Result<(), CellFault>
     requires readable { IsReadable (D.chunks disk.old) (D.image disk.old) }
     requires within { at + length out.old ≤ file.covers }
-    ensures read { D.tells disk.old → OnOk result (AreRead
+    ensures read { D.tells disk.old → OnOk result (AreReadFrom
         (base_cell (chunks_at (D.chunks disk.old) (D.image disk.old)) file)
-        (W.is_wanted wanted.now disk.old) at (at + length out.old) at out.new) }
+        (W.is_wanted wanted.now disk.old) at out.new) }
     ensures lost { D.tells disk.old → (q : ℕ) → IsErrOf result (CellFault.Lost q) → IsFirstLost
         (base_cell (chunks_at (D.chunks disk.old) (D.image disk.old)) file)
         (W.is_wanted wanted.now disk.old) at (at + length out.old) q }

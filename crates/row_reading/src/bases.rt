@@ -9,7 +9,7 @@ ghost use Rattle.row_reading.specs.Reading.{HasContent, IsReadable};
 
 use crate::chunk_disk::ChunkDisk;
 use crate::content::read_content;
-use crate::copies::{sound_place, text_of};
+use crate::copies::find_text;
 use crate::entries::sum_of;
 use crate::fault::BaseFault;
 use stream_map::ENTRY_BYTES;
@@ -69,13 +69,12 @@ fn row_holds<D: ChunkDisk>(disk: &mut D, id: u64, covers: u64) -> Result<bool, F
     ensures later { D.faults disk.old ≤ D.faults disk.new }
     ensures failed { OnErr result (Rose (D.faults disk.old) (D.faults disk.new)) }
 {
-    if disk.get_row(id).is_none() {
-        return Ok(true);
-    }
-    let (own, row) = text_of(disk, id);
-    match sound_place(disk, own, &row)? {
+    match find_text(disk, id)? {
         None => Ok(true),
-        Some(place) => map_holds(disk, place.container, place.offset, row.length, covers),
+        Some(text) => {
+            let place = text.place;
+            map_holds(disk, place.container, place.offset, text.length, covers)
+        }
     }
 }
 

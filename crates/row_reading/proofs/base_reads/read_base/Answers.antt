@@ -5,8 +5,8 @@ use Rattle.plain_volume.specs.Volume.{Cell, Lost}
 use Rattle.volume_inside.specs.Bases.{base_cell}
 use Rattle.volume_inside.specs.BaseCells.{map_cell}
 use Rattle.volume_inside.specs.Chunks.{Bases, chunk, chunks_at}
-use Rattle.row_reading.specs.BaseReads.{IsFirstLost, bytes_of_text}
-use Rattle.row_reading.proofs.Cells.{read_as, lost_same, base_of_map}
+use Rattle.row_reading.specs.BaseReads.{AreReadFrom, IsFirstLost, bytes_of_text}
+use Rattle.row_reading.proofs.Cells.{lost_same, base_of_map}
 use Rattle.row_reading.proofs.base_reads.read_base.Goals as goal
 
 pub returns-in-Ok-Some-clause-read : goal.returns-in-Ok-Some-clause-read
@@ -16,8 +16,7 @@ returns-in-Ok-Some-clause-read g c tells =
     let mid = c.find_text.new.disk in
     let reads = c.find_text.ensures.reads in
     let out = c.read_map.new.out in
-    let end = c.args.at + length c.args.out.now in
-    let cells : ℕ → Cell = base_cell (chunks_at (d.chunks old) (d.image old)) c.args.file in
+    let size = c.read_map.auto.out in
     let others : ℕ → Cell =
     map_cell (chunks_at (d.chunks mid) (d.image mid)) (bytes_of_text (d.chunks mid) (d.image mid) (Some c.in-Ok-Some.text)) in
     let law = g.met.W.Wanted.same_wanted c.args.wanted.now old mid reads.from in
@@ -25,9 +24,9 @@ returns-in-Ok-Some-clause-read g c tells =
     ≡ bytes_of_text (d.chunks old) (d.image old) (Some c.in-Ok-Some.text) =
     c.in-Ok-Some.ensures.is tells ∙ ap (bytes_of_text (d.chunks old) (d.image old)) c.in-Ok-Some.field-0-is in
     on_ok_weaker c.read_map.result
-    (read_as others cells (g.W.Wanted.is_wanted c.args.wanted.now mid) (g.W.Wanted.is_wanted c.args.wanted.now old) c.args.at end
-    (λ p low high. base_of_map d old mid reads c.args.file (Some c.in-Ok-Some.text) spelled p (omega (arith, high, c.requires.within)))
-    (λ p wanted. (law p).0 wanted) c.args.at out)
+    (λ (read : AreReadFrom others (g.W.Wanted.is_wanted c.args.wanted.now mid) c.args.at out) k low wanted.
+    base_of_map d old mid reads c.args.file (Some c.in-Ok-Some.text) spelled (c.args.at + k) (omega (arith, low, size, c.requires.within))
+    ∙ read k low ((law (c.args.at + k)).0 wanted))
     (c.read_map.ensures.read (reads.tells tells))
 
 pub returns-in-Ok-Some-clause-lost : goal.returns-in-Ok-Some-clause-lost

@@ -8,8 +8,8 @@ use Rattle.volume_inside.specs.BaseCells.{map_cell}
 use Rattle.volume_inside.specs.Chunks.{Bases, chunks_at}
 use Rattle.volume_inside.specs.Pages.{content}
 use Rattle.volume_inside.proofs.BaseAppended.{length-content}
-use Rattle.row_reading.specs.BaseReads.{ReadsAlone, AreRead, cell_from, IsIn, IsFirstLost}
-use Rattle.row_reading.proofs.Cells.{reads_then, same_bases, same_readable, read_then, read_as, read_held, lost_then, lost_as, lost_in_range}
+use Rattle.row_reading.specs.BaseReads.{ReadsAlone, AreRead, cell_from, IsIn, IsFirstLost, bytes_of_text}
+use Rattle.row_reading.proofs.Cells.{reads_then, same_bases, same_readable, read_then, read_as, read_held, lost_then, lost_as, lost_in_range, read_to_end}
 use Rattle.row_reading.proofs.PieceCells.{total_further, cells_of_read, lost_behind}
 use Rattle.row_reading.proofs.base_reads.read_map.Goals as goal
 use Rattle.row_reading.proofs.base_reads.read_map.Goals.{then-loop-done-test+else-begin-end, else-loop-done-test}
@@ -114,13 +114,15 @@ loop-done-preserved g c =
     }
 
 pub returns-in-None-clause-read : goal.returns-in-None-clause-read
-returns-in-None-clause-read g c tells k low from to wanted =
+returns-in-None-clause-read g c tells =
     let inv = c.loop-done.invariant in
-    let law = g.met.W.Wanted.same_wanted c.args.wanted.now c.args.disk.now c.loop-done.disk inv.reads.from in
-    elim (cases_lt (c.args.at + k) c.loop-done.begin) [
-      | inl here ↦ inv.read tells k low (omega arith) here wanted
-      | inr behind ↦ absurd (c.in-None.ensures (c.args.at + k) (omega arith) (omega arith) ((law (c.args.at + k)).0 wanted))
-    ]
+    let d = g.D.ChunkDisk in
+    let old = c.args.disk.now in
+    let law = g.met.W.Wanted.same_wanted c.args.wanted.now old c.loop-done.disk inv.reads.from in
+    read_to_end (map_cell (chunks_at (d.chunks old) (d.image old)) (bytes_of_text (d.chunks old) (d.image old) (Some c.args.text)))
+    (g.W.Wanted.is_wanted c.args.wanted.now c.loop-done.disk) (g.W.Wanted.is_wanted c.args.wanted.now old) c.args.at c.loop-done.begin
+    c.min.result (c.args.at + length c.args.out.now) c.loop-done.out (omega (arith, inv.size)) (λ p low from to. omega arith) (λ p wanted. (law p).0 wanted)
+    (inv.read tells) c.in-None.ensures
 
 pub returns-in-Some-clause-lost : goal.returns-in-Some-clause-lost
 returns-in-Some-clause-lost g c tells q is =
