@@ -1,5 +1,5 @@
 -- Cells of bases, read piece by piece.
-use Rattle.std.specs.Prelude.{◌≡◌, ◌≤◌, ◌<◌, ◌+◌, ◌*◌, ◌-◌, ◌/◌, min, ℕ, Bool, true, false, List, [], ◌∷◌, ◌++◌, length, take, drop, get_or}
+use Rattle.std.specs.Prelude.{◌≡◌, ◌≤◌, ◌<◌, ◌+◌, ◌-◌, min, ℕ, Bool, true, List, length, get_or}
 use Rattle.std.specs.Prelude.{Option, Some, None, if◌then◌else◌}
 use Rattle.std.proofs.Common.{◌∙◌, ap, sym, subst, arith, inl, inr, lt-ltb}
 use Rattle.std.proofs.lemmas.Bool.{cases_lt}
@@ -7,7 +7,7 @@ use Rattle.std.proofs.lemmas.List.{get_or_past}
 use Rattle.plain_volume.specs.Volume.{Cell, Byte, Lost}
 use Rattle.table_records.specs.declared.records.FileRecord.{FileRecord}
 use Rattle.volume_inside.specs.Bases.{base_cell}
-use Rattle.volume_inside.specs.BaseCells.{piece_cell, map_cell}
+use Rattle.volume_inside.specs.BaseCells.{map_cell}
 use Rattle.volume_inside.specs.Chunks.{Bases, chunk, chunks_at}
 use Rattle.volume_inside.specs.ChunkTables.{ChunkTables}
 use Rattle.row_reading.specs.declared.chunk_disk.ChunkDisk.{Ghosts}

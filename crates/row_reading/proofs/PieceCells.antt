@@ -1,9 +1,9 @@
 -- The cells of entries, and the entries of a map, part by part.
-use Rattle.std.specs.Prelude.{◌≡◌, ◌≤◌, ◌<◌, ◌+◌, ◌*◌, ◌-◌, ◌/◌, ℕ, List, [], ◌∷◌, ◌++◌, length, take, drop, Option, Some, None}
-use Rattle.std.proofs.Common.{◌∙◌, ap, sym, subst, arith, length-take, length-drop}
+use Rattle.std.specs.Prelude.{◌≡◌, ◌≤◌, ◌<◌, ◌+◌, ◌*◌, ◌-◌, ◌/◌, ℕ, List, ◌∷◌, ◌++◌, length, take, drop, Option, Some, None}
+use Rattle.std.proofs.Common.{◌∙◌, ap, sym, subst, arith}
 use Rattle.std.proofs.lemmas.List.{take-append-drop, length-take-le}
 use Rattle.std.proofs.Math.Seq.{take-add}
-use Rattle.plain_volume.specs.Volume.{Cell, Lost}
+use Rattle.plain_volume.specs.Volume.{Lost}
 use Rattle.vdisk.specs.Ranges.{part, length-part, part_more}
 use Rattle.stream_map.specs.declared.entry.Entry.{Entry}
 use Rattle.stream_map.specs.Entries.{entry_of}

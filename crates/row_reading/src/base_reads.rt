@@ -16,7 +16,9 @@ use crate::entries::entry_at;
 use crate::fault::CellFault;
 use crate::reading::read_found;
 use crate::wanted::Wanted;
-use stream_map::laws::{each_offset_has_its_entry, entries_of_joined_bytes, pieces_of_joined_lists};
+use stream_map::laws::{
+    each_offset_has_its_entry, entries_of_joined_bytes, pieces_of_joined_lists,
+};
 use stream_map::{ENTRY_BYTES, Entry};
 use table_records::FileRecord;
 use vdisk::Failed;
@@ -183,8 +185,12 @@ fn read_map<D: ChunkDisk, W: Wanted<D>>(
 }
 
 /// Reads cells that the base of a file gives, from the place `at` of the file on: where a cell is wanted, its byte stands
-/// in `out`; what stands for the others is not said. The fault `Lost` names the first wanted cell that is lost. The map is
-/// hashed once, and so is each copy of each piece that has a wanted cell there. It takes no memory. After a refusal `out`
+/// in `out`; what stands for the others is not said. The map need not meet its rule.
+///
+/// Where no cell is wanted, nothing is read. Otherwise the map is hashed once, and then each piece that has a wanted cell
+/// there is read, in the order of the file, each of its copies hashed once at most. It takes no memory.
+///
+/// The faults: `Failed`, or `Lost` with the place in the file of the first wanted cell that is lost. After either `out`
 /// may hold anything.
 pub fn read_base<D: ChunkDisk, W: Wanted<D>>(
     disk: &mut D,

@@ -1,7 +1,9 @@
-//! Rows are read, over the tables of chunks and the image that holds their bytes.
+//! Rows are read, and the cells that the bases of files give, over the tables of chunks and the image that holds their
+//! bytes.
 //!
 //! A row is read from the first of its copies that has its digest (`specs/Reading.antt`). The bytes of a container lie in
-//! clusters, and those of clusters that lie beside one another are read at once. Nothing here takes memory.
+//! clusters, and those of clusters that lie beside one another are read at once. The base of a file is read piece by
+//! piece, where a reader wants its cells (`specs/BaseReads.antt`). Nothing here takes memory.
 #![tactic(auto)]
 
 mod base_reads;

@@ -25,6 +25,7 @@ pub struct EachCell;
 
 impl<D: ChunkDisk> Wanted<D> for EachCell {
     ghost is_wanted = { λ w disk p. Unit {0} };
+
     ghost same_wanted = { λ w a b from p. (λ one. tt, λ one. tt) };
 
     fn first_wanted(&self, _disk: &D, from: u64, to: u64) -> Option<u64> {

@@ -1,10 +1,10 @@
-use Rattle.std.proofs.Common.{◌≡◌, ◌<◌, ◌+◌, ◌∙◌, ℕ, length, subst, ap, arith}
+use Rattle.std.proofs.Common.{◌≡◌, ◌+◌, ◌∙◌, ℕ, length, subst, ap, arith}
 use Rattle.std.specs.Prelude.{Some, None}
 use Rattle.std.proofs.lemmas.Result.{on_ok_weaker}
-use Rattle.plain_volume.specs.Volume.{Cell, Lost}
+use Rattle.plain_volume.specs.Volume.{Cell}
 use Rattle.volume_inside.specs.Bases.{base_cell}
 use Rattle.volume_inside.specs.BaseCells.{map_cell}
-use Rattle.volume_inside.specs.Chunks.{Bases, chunk, chunks_at}
+use Rattle.volume_inside.specs.Chunks.{chunk, chunks_at}
 use Rattle.row_reading.specs.BaseReads.{AreReadFrom, IsFirstLost, bytes_of_text}
 use Rattle.row_reading.proofs.Cells.{lost_same, base_of_map}
 use Rattle.row_reading.proofs.base_reads.read_base.Goals as goal

@@ -1,4 +1,4 @@
-use Rattle.std.proofs.Common.{◌≡◌, ◌≤◌, ◌<◌, ◌+◌, ◌∙◌, ℕ, List, Bool, get_or, length, take, drop, subst, sym, rules, arith, length-append, length-drop}
+use Rattle.std.proofs.Common.{◌≡◌, ◌≤◌, ◌∙◌, ℕ, List, Bool, length, take, drop, subst, sym, rules, arith, length-append, length-drop}
 use Rattle.std.proofs.lemmas.List.{length-take-le, get_or_append_left}
 use Rattle.row_reading.specs.Reading.{IsRangeOf, IsFoundOf}
 use Rattle.std.specs.Prelude.{Option, None, true}

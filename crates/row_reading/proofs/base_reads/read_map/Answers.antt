@@ -1,4 +1,4 @@
-use Rattle.std.proofs.Common.{◌≡◌, ◌≤◌, ◌<◌, ◌+◌, ◌*◌, ◌-◌, ◌/◌, ◌∙◌, ℕ, List, length, take, drop, subst, sym, ap, rules, arith, inl, inr, length-take, length-drop, length-append}
+use Rattle.std.proofs.Common.{◌≡◌, ◌≤◌, ◌+◌, ◌*◌, ◌/◌, ◌∙◌, ℕ, List, length, take, drop, subst, ap, rules, arith, inl, inr, length-take, length-drop, length-append}
 use Rattle.std.specs.Prelude.{Some, refl}
 use Rattle.std.proofs.lemmas.Bool.{cases_lt}
 use Rattle.plain_volume.specs.Volume.{Cell}
@@ -8,8 +8,8 @@ use Rattle.volume_inside.specs.BaseCells.{map_cell}
 use Rattle.volume_inside.specs.Chunks.{Bases, chunks_at}
 use Rattle.volume_inside.specs.Pages.{content}
 use Rattle.volume_inside.proofs.BaseAppended.{length-content}
-use Rattle.row_reading.specs.BaseReads.{ReadsAlone, AreRead, cell_from, IsIn, IsFirstLost, bytes_of_text}
-use Rattle.row_reading.proofs.Cells.{reads_then, same_bases, same_readable, read_then, read_as, read_held, lost_then, lost_as, lost_in_range, read_to_end}
+use Rattle.row_reading.specs.BaseReads.{ReadsAlone, cell_from, IsIn, IsFirstLost, bytes_of_text}
+use Rattle.row_reading.proofs.Cells.{reads_then, same_bases, read_then, read_as, read_held, lost_then, lost_as, lost_in_range, read_to_end}
 use Rattle.row_reading.proofs.PieceCells.{total_further, cells_of_read, lost_behind}
 use Rattle.row_reading.proofs.base_reads.read_map.Goals as goal
 use Rattle.row_reading.proofs.base_reads.read_map.Goals.{then-loop-done-test+else-begin-end, else-loop-done-test}

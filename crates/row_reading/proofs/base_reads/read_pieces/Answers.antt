@@ -1,4 +1,4 @@
-use Rattle.std.proofs.Common.{◌≡◌, ◌≤◌, ◌<◌, ◌+◌, ◌*◌, ◌-◌, ◌∙◌, ℕ, List, length, take, subst, sym, ap, rules, arith}
+use Rattle.std.proofs.Common.{◌≤◌, ◌+◌, ◌*◌, ◌-◌, ◌∙◌, ℕ, length, subst, sym, ap, rules, arith}
 use Rattle.std.specs.Prelude.{refl}
 use Rattle.plain_volume.specs.Volume.{Cell}
 use Rattle.stream_map.specs.declared.entry.Entry.{Entry}
