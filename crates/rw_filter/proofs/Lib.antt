@@ -1,0 +1,5 @@
+mod Alike
+mod Placed
+mod OwnRead
+mod Losses
+mod HoleCells

@@ -1,0 +1,12 @@
+//! Files whose cells come from a base are read and written: from their extents first, else from the pieces of their
+//! stream maps, else they are zero.
+#![tactic(auto)]
+
+mod filter;
+mod holes;
+mod own_cells;
+mod reading;
+mod runs;
+
+pub use filter::Filter;
+pub use reading::read_file;
