@@ -9,3 +9,13 @@ mod Dropped
 mod Redirected
 mod OneRow
 mod Copied
+mod PageKeys
+mod PageStates
+mod PageBytes
+mod PagesPut
+mod PagesSet
+mod Appended
+mod AppendAt
+mod AppendCalls
+mod AppendBytes
+mod Targets

@@ -52,7 +52,7 @@ module _ (next : ℕ) (t : ChunkTables) (rows : Each (RowHolds next) t.rows) whe
 
 -- ---- once more ids are drawn
 
-drawn_row : (low high id : ℕ) (row : Row) → low ≤ high → RowHolds low id row → RowHolds high id row
+pub drawn_row : (low high id : ℕ) (row : Row) → low ≤ high → RowHolds low id row → RowHolds high id row
 drawn_row low high id row le r = record {
   some_id = r.some_id;
   drawn = omega (arith, r.drawn, le);
@@ -63,7 +63,7 @@ drawn_row low high id row le r = record {
   if_map = r.if_map;
 }
 
-drawn_container : (low high id : ℕ) (c : Container) → low ≤ high → ContainerRecordHolds low id c
+pub drawn_container : (low high id : ℕ) (c : Container) → low ≤ high → ContainerRecordHolds low id c
     → ContainerRecordHolds high id c
 drawn_container low high id c le r = record {
   some_id = r.some_id;

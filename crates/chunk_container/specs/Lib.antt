@@ -4,3 +4,5 @@ pub mod Lending
 pub mod Rows
 pub mod Bases
 pub mod Calls
+pub mod Pages
+pub mod Appending

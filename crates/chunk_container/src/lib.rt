@@ -1,8 +1,10 @@
 //! Containers, to which chunks and maps are appended, and the rows that name them.
 #![tactic(auto)]
 
+mod appending;
 mod containers;
 mod copies;
+mod pages;
 mod reading;
 mod redirecting;
 mod rows;

@@ -21,11 +21,11 @@ pub get_or-part : (at n : ℕ) (image : List ℕ) (k : ℕ) → k < n → get_or
 get_or-part at n image k low = get_or-take n (drop at image) k 0 low ∙ get_or-drop at image k 0
 
 -- the byte at a place of a container
-abbrev byte_in : Option ℕ → ℕ → List ℕ → ℕ
+abbrev pub byte_in : Option ℕ → ℕ → List ℕ → ℕ
 byte_in None o image = 0
 byte_in (Some cluster) o image = get_or image (4096 * cluster + o) 0
 
-abbrev byte_at : ChunkTables → ℕ → List ℕ → ℕ → ℕ
+abbrev pub byte_at : ChunkTables → ℕ → List ℕ → ℕ → ℕ
 byte_at t c image p = byte_in (find pair_cmp (c, p / 4096) t.clusters) (p % 4096) image
 
 module _ (t : ChunkTables) (c : ℕ) (image : List ℕ) (has : HasPages t c image) where
@@ -68,14 +68,14 @@ module _ (t : ChunkTables) (c : ℕ) (image : List ℕ) (has : HasPages t c imag
             ∙ (λ i. byte_in (find pair_cmp (c, further i) t.clusters) (place i) image)
       ]
 
-  get_or-content : (p : ℕ) → p < used_of t.containers c → get_or (content t c image) p 0 ≡ byte_at t c image p
+  pub get_or-content : (p : ℕ) → p < used_of t.containers c → get_or (content t c image) p 0 ≡ byte_at t c image p
   get_or-content p low =
       let first : 0 + p / 4096 ≡ p / 4096 = omega arith in
       get_or-pages (pages_of (used_of t.containers c)) 0 p (omega arith) (omega (arith, low))
       ∙ ap (λ (index : ℕ). byte_in (find pair_cmp (c, index) t.clusters) (p % 4096) image) first
 
   -- bytes that are those of the container one by one are a part of it
-  all_read : (at n : ℕ) (out : List ℕ) → at + n ≤ used_of t.containers c → length out ≡ n
+  pub all_read : (at n : ℕ) (out : List ℕ) → at + n ≤ used_of t.containers c → length out ≡ n
       → ((k : ℕ) → k < n → get_or out k 0 ≡ byte_at t c image (at + k)) → out ≡ part at n (content t c image)
   all_read at n out within long read =
       let size = length-content t c image has in

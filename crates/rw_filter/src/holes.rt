@@ -21,6 +21,7 @@ pub(crate) struct Holes {
 
 impl<D: Disk> Wanted<Tables<D>> for Holes {
     ghost is_wanted = { λ w t p. IsHole (tables_now t) w.file w.covers p };
+
     ghost same_wanted = { λ w a b reads p. same_hole (tables_now a) (tables_now b) reads.now w.file w.covers p };
 
     fn first_wanted(&self, disk: &Tables<D>, from: u64, to: u64) -> Option<u64> {
@@ -28,7 +29,10 @@ impl<D: Disk> Wanted<Tables<D>> for Holes {
         let block = u64::from(BLOCK);
         let mut place = from;
         while place < end {
-            if disk.get_extent((self.file, (place / block) as u32)).is_none() {
+            if disk
+                .get_extent((self.file, (place / block) as u32))
+                .is_none()
+            {
                 return Some(place);
             }
             place = (place / block + 1) * block;

@@ -52,7 +52,12 @@ returns-in-Err-Lost-clause-damaged g c stored is q err =
     (c.in-Err-Lost.is ∙ ap Err c.in-Err-Lost.field-0-is) in
     let found = base_lost (tables_now t) (disk_of t).image c.args.file c.args.at (length out) m c.args.found
     c.requires.there c.min-count.ensures c.if-found-at.false c.in-Err-Lost.place
-    (record { behind = first.behind; within = (let to = first.within in omega (arith, to, room)); wanted = first.wanted;
-      lost = first.lost; before = first.before }) in
+    (record {
+      behind = first.behind;
+      within = (let to = first.within in omega (arith, to, room));
+      wanted = first.wanted;
+      lost = first.lost;
+      before = first.before;
+    }) in
     subst (IsFirstHole (tables_now t) (inside_now t) c.args.file c.args.found c.args.at (length out))
     (ap place_of err) found
