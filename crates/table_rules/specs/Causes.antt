@@ -3,7 +3,7 @@ use Rattle.std.specs.Prelude.{◌≡◌, ℕ}
 use Rattle.byte_map.specs.Words.{Map}
 use Rattle.table_records.specs.WellFormed.{AllWellFormed}
 use Rattle.volume_inside.specs.Typed.{typed_of}
-use Rattle.volume_inside.specs.Rules.{RecordsHold, IsLeastBroken}
+use Rattle.volume_inside.specs.Rules.{RecordsHold, IsLeastBrokenOfTables}
 use Rattle.volume_inside.specs.InsideOf.{HasVersion}
 use Rattle.volume_inside.specs.declared.mount_fault.MountFault.{MountFault}
 use Rattle.volume_inside.specs.declared.mount_fault.MountFault.TheVariants as mount
@@ -16,17 +16,19 @@ abbrev pub BreaksRecords : Map → TableFault → Type 0
 BreaksRecords m (Broken rule) = (rule ≡ 1) × (AllWellFormed m × (let t = typed_of m in RecordsHold t.volume t.settings t.results) → ⊥)
 BreaksRecords m Memory = Unit {0}
 
--- THE CAUSE: of the rules in their order this is the first one that is broken; or memory was wanting
+-- THE CAUSE: of the rules that tables alone tell, in their order, this is the first one that is broken; or memory was
+-- wanting
 abbrev pub IsCause : ℕ → Map → TableFault → Type 0
-IsCause n m (Broken rule) = IsLeastBroken n m rule
+IsCause n m (Broken rule) = IsLeastBrokenOfTables n m rule
 IsCause n m Memory = Unit {0}
 
--- why tables are not mounted: their version is not known, or it is, and this is the first rule that is broken
+-- why tables are not mounted: their version is not known, or it is, and this is the first rule that is broken of those
+-- that tables alone tell
 abbrev pub IsRefusal : ℕ → Map → MountFault → Type 0
 IsRefusal n m NotVolume = ⊥
 IsRefusal n m (VersionUnknown found) = HasVersion found m
 IsRefusal n m (SizeDiffers said size) = ⊥
 IsRefusal n m (MetaDamaged half) = ⊥
-IsRefusal n m (BadTable rule) = ((found : ℕ) → HasVersion found m → ⊥) × IsLeastBroken n m rule
+IsRefusal n m (BadTable rule) = ((found : ℕ) → HasVersion found m → ⊥) × IsLeastBrokenOfTables n m rule
 IsRefusal n m mount.Failed = ⊥
 IsRefusal n m mount.Memory = Unit {0}

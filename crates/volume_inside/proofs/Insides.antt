@@ -17,7 +17,8 @@ use Rattle.volume_inside.specs.declared.mount_fault.MountFault.TheVariants.{NotV
 use Rattle.volume_inside.specs.Typed.{typed_of}
 use Rattle.volume_inside.specs.Inside.{Inside, inside_at}
 use Rattle.volume_inside.specs.Superblock.{HasSuperblock}
-use Rattle.volume_inside.specs.Rules.{IsVolumeRecord, IsVolume, Broken, IsLeastBroken}
+use Rattle.volume_inside.specs.ChunkRules.{MapsHold}
+use Rattle.volume_inside.specs.Rules.{IsVolumeRecord, IsVolume, Broken, IsLeastBrokenOr, IsLeastBrokenOfTables, IsLeastBroken}
 use Rattle.volume_inside.specs.InsideOf.{Reading, HasVersion, InsideOf}
 
 -- ---- one number of clusters
@@ -39,19 +40,21 @@ broken_once j k number rule one two later (inl (p, fails)) (inr (holds, b)) = ab
 broken_once j k number rule one two later (inr (holds, a)) (inl (q, never)) = absurd (never holds)
 broken_once j k number rule one two later (inr (holds, a)) (inr (too, b)) = later a b
 
-pub least_once : (n : ℕ) (m : Map) (j k : ℕ) → IsLeastBroken n m j → IsLeastBroken n m k → j ≡ k
-least_once n m j k =
+pub least_once : (n : ℕ) (m : Map) (image : List ℕ) (j k : ℕ) → IsLeastBroken n m image j → IsLeastBroken n m image k
+    → j ≡ k
+least_once n m image j k =
     broken_once j k 1 _ _ _ (broken_once j k 2 _ _ _ (broken_once j k 3 _ _ _ (broken_once j k 5 _ _ _
     (broken_once j k 6 _ _ _ (broken_once j k 7 _ _ _ (broken_once j k 8 _ _ _ (broken_once j k 9 _ _ _
-    (broken_once j k 10 _ _ _ (λ a b. absurd a)))))))))
+    (broken_once j k 10 _ _ _ (broken_once j k 12 _ _ _ (λ a b. absurd a))))))))))
 
 -- no rule of a volume is broken
 unbroken : (k number : ℕ) (rule later : Type 0) → rule → (later → ⊥) → Broken k number rule later → ⊥
 unbroken k number rule later holds rest (inl (p, fails)) = fails holds
 unbroken k number rule later holds rest (inr (too, a)) = rest a
 
-pub volume_unbroken : (n : ℕ) (m : Map) (k : ℕ) → IsVolume n m → IsLeastBroken n m k → ⊥
-volume_unbroken n m k v =
+pub volume_unbroken : (n : ℕ) (m : Map) (image : List ℕ) (k : ℕ) → IsVolume n m
+    → MapsHold (inside_at (typed_of m) image) → IsLeastBroken n m image k → ⊥
+volume_unbroken n m image k v maps =
     unbroken k 1 _ _ (v.spelled, v.rules.records)
     (unbroken k 2 _ _ v.rules.names
     (unbroken k 3 _ _ (v.rules.files, v.rules.bare)
@@ -60,7 +63,48 @@ volume_unbroken n m k v =
     (unbroken k 7 _ _ v.rules.chunks.redirects
     (unbroken k 8 _ _ v.rules.chunks.places
     (unbroken k 9 _ _ v.rules.chunks.containers
-    (unbroken k 10 _ _ v.rules.clusters (λ none. none)))))))))
+    (unbroken k 10 _ _ v.rules.clusters
+    (unbroken k 12 _ _ maps (λ none. none))))))))))
+
+-- the first one of the rules of tables is the first one of all
+sooner : (k number : ℕ) (rule one two : Type 0) → (one → two) → Broken k number rule one → Broken k number rule two
+sooner k number rule one two later (inl fails) = inl fails
+sooner k number rule one two later (inr (holds, rest)) = inr (holds, later rest)
+
+pub least_of_tables : (n : ℕ) (m : Map) (image : List ℕ) (k : ℕ) → IsLeastBrokenOfTables n m k → IsLeastBroken n m image k
+least_of_tables n m image k =
+    sooner k 1 _ _ _ (sooner k 2 _ _ _ (sooner k 3 _ _ _ (sooner k 5 _ _ _ (sooner k 6 _ _ _ (sooner k 7 _ _ _
+    (sooner k 8 _ _ _ (sooner k 9 _ _ _ (sooner k 10 _ _ _ (λ none. absurd none)))))))))
+
+-- of a volume that breaks the rule on maps, that is the first one
+pub least_of_maps : (n : ℕ) (m : Map) (image : List ℕ) → IsVolume n m → (MapsHold (inside_at (typed_of m) image) → ⊥)
+    → IsLeastBroken n m image 12
+least_of_maps n m image v fails =
+    inr (
+      (v.spelled, v.rules.records),
+      inr (
+        v.rules.names,
+        inr (
+          (v.rules.files, v.rules.bare),
+          inr (
+            v.rules.extents,
+            inr (
+              v.rules.chunks.rows,
+              inr (
+                v.rules.chunks.redirects,
+                inr (
+                  v.rules.chunks.places,
+                  inr (
+                    v.rules.chunks.containers,
+                    inr (v.rules.clusters, inl (refl, fails)),
+                  ),
+                ),
+              ),
+            ),
+          ),
+        ),
+      ),
+    )
 
 -- ---- the version
 
@@ -89,8 +133,8 @@ Answer = Result Inside MountFault
 module _ (read : Reading) (image : List ℕ) where
   AfterVersion : ℕ → Map → Answer → Type 0
   AfterVersion n m a =
-      (IsVolume n m × (a ≡ Ok (inside_at (typed_of m) image)))
-      ⊎ ((rule : ℕ) × IsLeastBroken n m rule × (a ≡ Err (BadTable rule)))
+      (IsVolume n m × MapsHold (inside_at (typed_of m) image) × (a ≡ Ok (inside_at (typed_of m) image)))
+      ⊎ ((rule : ℕ) × IsLeastBroken n m image rule × (a ≡ Err (BadTable rule)))
 
   AfterJournal : ℕ → Map → Answer → Type 0
   AfterJournal n m a =
@@ -122,7 +166,7 @@ module _ (read : Reading) (image : List ℕ) where
           inr (
             h.stored,
             h.spells,
-            inr ((λ found version. volume_known n h.stored found h.volume version), inl (h.volume, ap (λ (x : Inside). Ok x) (sym h.is))),
+            inr ((λ found version. volume_known n h.stored found h.volume version), inl (h.volume, h.maps, ap (λ (x : Inside). Ok x) (sym h.is))),
           ),
         ),
       )
@@ -139,11 +183,11 @@ module _ (read : Reading) (image : List ℕ) where
 
   after_version : (n : ℕ) (m : Map) (a b : Answer) → AfterVersion n m a → AfterVersion n m b → a ≡ b
   unfolding AfterVersion
-  after_version n m a b (inl (v, p)) (inl (w, q)) = p ∙ sym q
-  after_version n m a b (inl (v, p)) (inr (k, broken, q)) = absurd (volume_unbroken n m k v broken)
-  after_version n m a b (inr (j, broken, p)) (inl (w, q)) = absurd (volume_unbroken n m j w broken)
+  after_version n m a b (inl (v, maps, p)) (inl (w, too, q)) = p ∙ sym q
+  after_version n m a b (inl (v, maps, p)) (inr (k, broken, q)) = absurd (volume_unbroken n m image k v maps broken)
+  after_version n m a b (inr (j, broken, p)) (inl (w, maps, q)) = absurd (volume_unbroken n m image j w maps broken)
   after_version n m a b (inr (j, one, p)) (inr (k, two, q)) =
-      p ∙ ap (λ (r : ℕ). Err (BadTable r)) (least_once n m j k one two) ∙ sym q
+      p ∙ ap (λ (r : ℕ). Err (BadTable r)) (least_once n m image j k one two) ∙ sym q
 
   after_journal : (n : ℕ) (m : Map) (a b : Answer) → AfterJournal n m a → AfterJournal n m b → a ≡ b
   unfolding AfterJournal

@@ -12,8 +12,10 @@ use Rattle.table_records.specs.declared.records.Extent.{Extent}
 use Rattle.table_records.specs.declared.chunk_records.Row.{Row}
 use Rattle.volume_inside.specs.Typed.{Typed, FileBlock}
 use Rattle.volume_inside.specs.Changes.{with_file, with_extent, keep_extents}
-use Rattle.volume_inside.specs.Bases.{base_clusters}
-use Rattle.volume_inside.specs.ChunkRules.{HasNoBase, MapRowHolds}
+use Rattle.volume_inside.specs.Bases.{base_clusters, bases_of}
+use Rattle.volume_inside.specs.Chunks.{Bases}
+use Rattle.volume_inside.specs.Inside.{inside_at}
+use Rattle.volume_inside.specs.ChunkRules.{HasNoBase, MapRowHolds, BaseHolds, MapsHold}
 use Rattle.volume_inside.specs.Named.{clusters_of}
 use Rattle.volume_inside.specs.Lists.{IsOnce}
 use Rattle.volume_inside.specs.Entries.{Each, each_put, each_found, each_weaker, each_where_key}
@@ -53,6 +55,14 @@ pub no_map_rows : (next : ℕ) (rows : List (ℕ × Row)) (files : List (ℕ × 
 no_map_rows next rows [] hold bare = tt
 no_map_rows next rows (e ∷ files) hold bare =
     (no_map_row next rows e.0 e.1 hold.0 bare.0, no_map_rows next rows files hold.1 bare.1)
+
+-- where no file has a base, there is no map that could break their rule
+pub bare_bases : (b : Bases) (files : List (ℕ × FileRecord)) → AreBare files → Each (BaseHolds b) files
+bare_bases b files bare =
+    each_weaker HasNoBase (BaseHolds b) files (λ id file none. λ covered. absurd (covered none)) bare
+
+pub bare_maps : (t : Typed) (image : List ℕ) → AreBare t.files → MapsHold (inside_at t image)
+bare_maps t image bare = bare_bases (bases_of t image) t.files bare
 
 -- ---- one change at a time
 

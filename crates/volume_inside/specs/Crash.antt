@@ -7,12 +7,13 @@ use Rattle.byte_map.specs.Words.{Map}
 use Rattle.plain_volume.specs.Volume.{Volume}
 use Rattle.volume_inside.specs.declared.layout.TheConstants.{CLUSTER_BYTES}
 use Rattle.volume_inside.specs.Typed.{typed_of}
-use Rattle.volume_inside.specs.Inside.{inside_at}
+use Rattle.volume_inside.specs.Inside.{Inside, inside_at}
 use Rattle.volume_inside.specs.View.{view}
 use Rattle.volume_inside.specs.Ranges.{IsApart, agrees_apart}
 use Rattle.volume_inside.specs.Named.{named}
 use Rattle.volume_inside.specs.Frame.{inside_apart}
 use Rattle.volume_inside.specs.Superblock.{IsSuperblock, HasSuperblock}
+use Rattle.volume_inside.specs.ChunkRules.{MapsHold}
 use Rattle.volume_inside.specs.Rules.{IsVolume}
 use Rattle.volume_inside.specs.Shows.{Area, HasInside, Shows, Kept, ShowsEither, view_at}
 use Rattle.volume_inside.specs.Commits.{IsCommitImage, IsSettledImage}
@@ -27,9 +28,9 @@ same_map m n e = ap read e
 module _ (a : Area) where
   -- A map of a volume names bytes that a change did not touch: an image whose journal spells the map has its inside.
   still_inside : (at n : ℕ) (d c : List ℕ) (m : Map) → HasSuperblock a.clusters d → length d ≡ CLUSTER_BYTES * a.clusters
-      → a.meta c ≡ Ok m → IsVolume a.clusters m → IsApart at n (named (typed_of m)) → ChangedWithin at n d c
-      → HasInside a (inside_at (typed_of m) d) c
-  still_inside at n d c m superblock size spells volume apart change =
+      → a.meta c ≡ Ok m → IsVolume a.clusters m → MapsHold (inside_at (typed_of m) d) → IsApart at n (named (typed_of m))
+      → ChangedWithin at n d c → HasInside a (inside_at (typed_of m) d) c
+  still_inside at n d c m superblock size spells volume maps apart change =
       let same = agrees_apart at n (named (typed_of m)) d c apart change in
       record {
         superblock = record {
@@ -41,6 +42,7 @@ module _ (a : Area) where
         spells = spells;
         volume = volume;
         is = inside_apart (typed_of m) at n d c apart change;
+        maps = subst MapsHold (sym (inside_apart (typed_of m) at n d c apart change)) maps;
       }
 
   -- a change that the map's tables do not name shows the same
@@ -52,7 +54,8 @@ module _ (a : Area) where
       let near = subst (λ (q : Map). IsApart at n (named (typed_of q))) mine apart in
       record {
         inside = inside_at (typed_of has.stored) d;
-        has = still_inside at n d c has.stored has.superblock has.size (same ∙ has.spells) has.volume near change;
+        has = still_inside at n d c has.stored has.superblock has.size (same ∙ has.spells) has.volume has.maps near
+            change;
         is = ap view has.is ∙ shows.is;
       }
 
@@ -70,14 +73,15 @@ module _ (a : Area) where
   module _ (old : DiskState) (at half : ℕ) (m n : Map) (w : Volume)
       (spells : (c : List ℕ) → old.may_leave c → a.meta c ≡ Ok m)
       (apart : IsApart at (2 * half) (named (typed_of m))) (apart_now : IsApart at (2 * half) (named (typed_of n)))
-      (volume : IsVolume a.clusters n) (kept : Kept a old w) where
+      (volume : IsVolume a.clusters n) (maps : MapsHold (inside_at (typed_of n) old.image)) (kept : Kept a old w) where
     now_shows : (c : List ℕ) → ChangedWithin at (2 * half) old.image c → a.meta c ≡ Ok n
         → Shows a (view_at (typed_of n) old.image) c
     now_shows c change is =
         let read = kept old.image old.reads in
         record {
           inside = inside_at (typed_of n) old.image;
-          has = still_inside at (2 * half) old.image c n read.has.superblock read.has.size is volume apart_now change;
+          has = still_inside at (2 * half) old.image c n read.has.superblock read.has.size is volume maps apart_now
+              change;
           is = refl;
         }
 

@@ -42,6 +42,6 @@ InsideOf read image (Err (VersionUnknown found)) =
     (n : ℕ) × (m : Map) × IsImageOf n image × (read n image ≡ Ok m) × HasVersion found m
 InsideOf read image (Err (BadTable rule)) =
     (n : ℕ) × (m : Map) × IsImageOf n image × (read n image ≡ Ok m) × ((found : ℕ) → HasVersion found m → ⊥)
-    × IsLeastBroken n m rule
+    × IsLeastBroken n m image rule
 InsideOf read image (Err Failed) = ⊥
 InsideOf read image (Err Memory) = ⊥

@@ -7,6 +7,8 @@ use Rattle.plain_volume.specs.Volume.{Cells, Volume, lost_where}
 use Rattle.volume_inside.specs.Typed.{typed_of}
 use Rattle.volume_inside.specs.Ranges.{IsApart}
 use Rattle.volume_inside.specs.Named.{named}
+use Rattle.volume_inside.specs.Inside.{inside_at}
+use Rattle.volume_inside.specs.ChunkRules.{MapsHold}
 use Rattle.volume_inside.specs.Rules.{IsVolume}
 use Rattle.volume_inside.specs.Shows.{Area, Shows, Kept, ShowsEither, view_at}
 use Rattle.volume_inside.specs.Commits.{IsCommitImage, IsSettledImage}
@@ -29,13 +31,14 @@ DataWritesKeep old new =
     (a : Area) (at n : ℕ) (m : Map) (w : Volume) → TornWithin at n old new → Spells a old m → IsUnread a at n
     → IsApart at n (named (typed_of m)) → Kept a old w → Keeps old new (Shows a w)
 
--- Before a commit each crash image spells m and shows w. The map now is n, one of a volume, and neither map names a
--- byte of the journal, whose halves of so many bytes stand at a place.
+-- Before a commit each crash image spells m and shows w. The map now is n, one of a volume whose bases have the maps
+-- that they should, and neither map names a byte of the journal, whose halves of so many bytes stand at a place.
 pub record IsReady (a : Area) (old : DiskState) (at half : ℕ) (m n : Map) (w : Volume) : Type 0 where
   pub spells : Spells a old m
   pub apart : IsApart at (2 * half) (named (typed_of m))
   pub apart_now : IsApart at (2 * half) (named (typed_of n))
   pub volume : IsVolume a.clusters n
+  pub maps : MapsHold (inside_at (typed_of n) old.image)
   pub kept : Kept a old w
 
 -- At each moment of a commit a crash leaves what was shown before it or the tables now.

@@ -22,10 +22,11 @@ use Rattle.volume_inside.specs.declared.layout.TheConstants.{CLUSTER_BYTES}
 use Rattle.volume_inside.specs.Typed.{Typed, FileBlock, typed_of}
 use Rattle.volume_inside.specs.Layout.{IsDataCluster}
 use Rattle.volume_inside.specs.Entries.{Each}
+use Rattle.volume_inside.specs.Inside.{inside_at}
 pub use Rattle.volume_inside.specs.Lists.{IsOut, IsOnce}
 use Rattle.volume_inside.specs.Named.{clusters_of}
 use Rattle.volume_inside.specs.ChunkRules.{CoverHolds, HasNoBase, MapRowHolds, ChunksHold, RowsHold, RedirectsHold}
-use Rattle.volume_inside.specs.ChunkRules.{PlacesHold, ContainersHold}
+use Rattle.volume_inside.specs.ChunkRules.{PlacesHold, ContainersHold, MapsHold}
 
 -- ---- the records that are always there
 
@@ -149,10 +150,11 @@ pub record IsVolume (n : ℕ) (m : Map) : Type 0 where
 abbrev pub Broken : ℕ → ℕ → Type 0 → Type 0 → Type 0
 Broken k number rule later = ((k ≡ number) × (rule → ⊥)) ⊎ (rule × later)
 
--- Of the rules in their order, k is the first one that does not hold. As no file has a base yet, those on the maps of
--- bases, 4 and 12, hold where rule 3 does; rule 11 is on a table that no volume has yet.
-abbrev pub IsLeastBroken : ℕ → Map → ℕ → Type 0
-IsLeastBroken n m k =
+-- Of the rules that tables alone tell, k is the first one that does not hold, or these hold and k is a later one. As no
+-- file has a base yet, that on the rows of maps, 4, holds where rule 3 does; rule 11 is on a table that no volume has
+-- yet.
+abbrev pub IsLeastBrokenOr : ℕ → Map → ℕ → Type 0 → Type 0
+IsLeastBrokenOr n m k later =
     let t = typed_of m in
     Broken k 1 (AllWellFormed m × RecordsHold t.volume t.settings t.results)
     (Broken k 2 (NamesHold t.names t.files)
@@ -162,4 +164,13 @@ IsLeastBroken n m k =
     (Broken k 7 (RedirectsHold t.chunks)
     (Broken k 8 (PlacesHold t.chunks)
     (Broken k 9 (ContainersHold n (next_id_of t) t.chunks)
-    (Broken k 10 (ClustersHold t) ⊥))))))))
+    (Broken k 10 (ClustersHold t) later))))))))
+
+-- of the rules that tables alone tell, k is the first one that does not hold
+abbrev pub IsLeastBrokenOfTables : ℕ → Map → ℕ → Type 0
+IsLeastBrokenOfTables n m k = IsLeastBrokenOr n m k ⊥
+
+-- Of all rules in their order, k is the first one that does not hold: the last one, on the maps of bases, is on what the
+-- image holds.
+abbrev pub IsLeastBroken : ℕ → Map → List ℕ → ℕ → Type 0
+IsLeastBroken n m image k = IsLeastBrokenOr n m k (Broken k 12 (MapsHold (inside_at (typed_of m) image)) ⊥)

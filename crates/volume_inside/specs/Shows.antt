@@ -8,6 +8,7 @@ use Rattle.volume_inside.specs.Typed.{Typed, typed_of}
 use Rattle.volume_inside.specs.Inside.{Inside, inside_at}
 use Rattle.volume_inside.specs.View.{view}
 use Rattle.volume_inside.specs.Superblock.{HasSuperblock}
+use Rattle.volume_inside.specs.ChunkRules.{MapsHold}
 use Rattle.volume_inside.specs.Rules.{IsVolume}
 
 -- How the images of a volume are read: how many clusters they have, and what the journal of an image spells, a map or
@@ -24,6 +25,7 @@ pub record HasInside (a : Area) (i : Inside) (image : List ℕ) : Type 0 where
   pub spells : a.meta image ≡ Ok stored
   pub volume : IsVolume a.clusters stored
   pub is : inside_at (typed_of stored) image ≡ i
+  pub maps : MapsHold (inside_at (typed_of stored) image)
 
 -- the image has an inside, and w is its view
 pub record Shows (a : Area) (w : Volume) (image : List ℕ) : Type 0 where

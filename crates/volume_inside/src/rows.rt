@@ -1,5 +1,5 @@
 // Small volumes that were worked out by hand, each the contract of an empty function.
-ghost use Rattle.std.specs.Prelude.{◌≡◌, [], ◌∷◌, ◌++◌, codes};
+ghost use Rattle.std.specs.Prelude.{◌≡◌, ℕ, List, [], ◌∷◌, ◌++◌, codes};
 ghost use Rattle.byteorder.specs.Endian.{big_bytes};
 ghost use Rattle.plain_volume.specs.Volume.{Byte};
 ghost use Rattle.volume_inside.specs.Typed.{typed_of};
@@ -41,19 +41,19 @@ pub fn one_file_meets_the_rules()
 /// The rule that is broken: a next id of 0, a name of no file, a covered byte of a file without a map, an extent of no
 /// file, an extent in the journal, and two extents over one cluster.
 pub fn each_rule_may_be_broken()
-    ensures records { IsLeastBroken 4096 (map_of 0 []) 1 }
-    ensures names { IsLeastBroken 4096 (map_of 2 (name_pair (codes "a") 1 ∷ [])) 2 }
-    ensures files { IsLeastBroken 4096 (map_of 2 (name_pair (codes "a") 1 ∷ file_pair 1 1 1 ∷ [])) 3 }
-    ensures no_file { IsLeastBroken 4096 (one_file 7 (extent_pair 2 0 257 5 ∷ [])) 5 }
-    ensures journal { IsLeastBroken 4096 (one_file 7 (extent_pair 1 0 256 5 ∷ [])) 5 }
-    ensures clusters { IsLeastBroken 4096
-        (one_file 8192 (extent_pair 1 0 257 4096 ∷ extent_pair 1 1 257 4096 ∷ [])) 10 }
+    ensures records { (image : List ℕ) → IsLeastBroken 4096 (map_of 0 []) image 1 }
+    ensures names { (image : List ℕ) → IsLeastBroken 4096 (map_of 2 (name_pair (codes "a") 1 ∷ [])) image 2 }
+    ensures files { (image : List ℕ) → IsLeastBroken 4096 (map_of 2 (name_pair (codes "a") 1 ∷ file_pair 1 1 1 ∷ [])) image 3 }
+    ensures no_file { (image : List ℕ) → IsLeastBroken 4096 (one_file 7 (extent_pair 2 0 257 5 ∷ [])) image 5 }
+    ensures journal { (image : List ℕ) → IsLeastBroken 4096 (one_file 7 (extent_pair 1 0 256 5 ∷ [])) image 5 }
+    ensures clusters { (image : List ℕ) → IsLeastBroken 4096
+        (one_file 8192 (extent_pair 1 0 257 4096 ∷ extent_pair 1 1 257 4096 ∷ [])) image 10 }
 {}
 
 /// Where more than one rule is broken, the least one counts.
 pub fn the_least_broken_rule_counts()
-    ensures { IsLeastBroken 4096 (map_of 0 (name_pair (codes "a") 1 ∷ file_pair 1 8192 0
-        ∷ extent_pair 1 0 257 4096 ∷ extent_pair 1 1 257 4096 ∷ [])) 1 }
+    ensures { (image : List ℕ) → IsLeastBroken 4096 (map_of 0 (name_pair (codes "a") 1 ∷ file_pair 1 8192 0
+        ∷ extent_pair 1 0 257 4096 ∷ extent_pair 1 1 257 4096 ∷ [])) image 1 }
 {}
 
 /// A version other than 1 is found where the record of the volume has its length.
