@@ -109,7 +109,7 @@ least_of_maps n m image v fails =
 -- ---- the version
 
 -- a volume has version 1
-volume_known : (n : ℕ) (m : Map) (found : ℕ) → IsVolume n m → HasVersion found m → ⊥
+pub volume_known : (n : ℕ) (m : Map) (found : ℕ) → IsVolume n m → HasVersion found m → ⊥
 volume_known n m found v h =
     let here : find single_cmp tt (typed_of m).volume ≡ Some (volume_in h.value) =
     find_typed volume_codec (1 ∷ []) tt refl m ∙ ap (λ (o : Option (List ℕ)). option_map volume_in o) h.there in

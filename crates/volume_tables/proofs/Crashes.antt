@@ -18,6 +18,7 @@ use Rattle.volume_inside.specs.Frame.{inside_apart}
 use Rattle.volume_inside.specs.Ranges.{IsApart}
 use Rattle.volume_inside.specs.Named.{named, clusters_of, IsUnnamed}
 use Rattle.volume_inside.specs.Lists.{IsOut}
+use Rattle.volume_inside.specs.ChunkRules.{MapsHold}
 use Rattle.volume_inside.specs.Rules.{IsVolume}
 use Rattle.volume_inside.specs.Tails.{AreTailsFree}
 use Rattle.volume_inside.specs.Shows.{Shows, Kept, ShowsEither, view_at}
@@ -91,31 +92,36 @@ module _ {D : Type 0} {d : Ghosts D} (t : Tables D d) (l : MetaLog D d) (quiet :
   before : (w : Volume) → Kept (area_of t) (disk_of t) w → Kept (area_of t) (log_state l) w
   before w kept = subst (λ (x : D). Kept (area_of t) (d.state x) w) (sym quiet.disk) kept
 
+  maps_there : MapsHold (inside_now t) → MapsHold (inside_at (typed_of (log_now l)) (log_state l).image)
+  maps_there maps =
+      subst (λ (x : D). MapsHold (inside_at (typed_of (log_now l)) (d.state x).image)) (sym quiet.disk)
+      (subst (λ (q : Typed). MapsHold (inside_at q (disk_of t).image)) (sym all) maps)
+
   -- a commit of tables that meet the rules
   pub commit_moments : (stored : Typed) (w : Volume) (new : DiskState) → IsVolume t.clusters (log_now l)
-      → IsTables t stored → Kept (area_of t) (disk_of t) w
+      → MapsHold (inside_now t) → IsTables t stored → Kept (area_of t) (disk_of t) w
       → ((m : Map) → IsLogOf l m → Keeps (log_state l) new (IsCommitImage l.at l.half (log_state l) (log_now l)))
       → Keeps (disk_of t) new (ShowsEither (area_of t) w (view_at (tables_now t) (disk_of t).image))
-  commit_moments stored w new volume is kept run =
+  commit_moments stored w new volume maps is kept run =
       let log = quiet.log is.map is.log in
       subst (λ (x : D). Keeps (d.state x) new (ShowsEither (area_of t) w (view_at (tables_now t) (d.state x).image)))
       quiet.disk
       (subst (λ (q : Typed). Keeps (log_state l) new (ShowsEither (area_of t) w (view_at q (log_state l).image))) all
       (commit_keeps (area_of t) (log_state l) journal_at (half_bytes t.clusters) is.map (log_now l) w
-      (spells_there is.map log) (stored_apart t stored is) now_apart volume (before w kept)
+      (spells_there is.map log) (stored_apart t stored is) now_apart volume (maps_there maps) (before w kept)
       new (subst (λ (p : ℕ × ℕ). Keeps (log_state l) new (IsCommitImage p.0 p.1 (log_state l) (log_now l)))
       (λ i. (at_place i, at_half i)) (run is.map log))))
 
   pub commit_kept : (stored : Typed) (w : Volume) (new : DiskState) → IsVolume t.clusters (log_now l)
-      → (is : IsTables t stored) → Kept (area_of t) (disk_of t) w
+      → MapsHold (inside_now t) → (is : IsTables t stored) → Kept (area_of t) (disk_of t) w
       → ((c : List ℕ) → new.may_leave c → IsSettledImage l.at l.half (log_state l) is.map (log_now l) c)
       → Kept (area_of t) new (view_at (tables_now t) (disk_of t).image)
-  commit_kept stored w new volume is kept settled =
+  commit_kept stored w new volume maps is kept settled =
       let log = quiet.log is.map is.log in
       subst (λ (x : D). Kept (area_of t) new (view_at (tables_now t) (d.state x).image)) quiet.disk
       (subst (λ (q : Typed). Kept (area_of t) new (view_at q (log_state l).image)) all
       (settled_kept (area_of t) (log_state l) journal_at (half_bytes t.clusters) is.map (log_now l) w
-      (spells_there is.map log) (stored_apart t stored is) now_apart volume (before w kept)
+      (spells_there is.map log) (stored_apart t stored is) now_apart volume (maps_there maps) (before w kept)
       new (subst (λ (p : ℕ × ℕ). (c : List ℕ) → new.may_leave c
       → IsSettledImage p.0 p.1 (log_state l) is.map (log_now l) c) (λ i. (at_place i, at_half i)) settled)))
 

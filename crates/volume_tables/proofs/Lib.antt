@@ -8,6 +8,8 @@ pub mod Weighed
 pub mod WellFormed
 pub mod Puts
 pub mod Kept
+pub mod Walked
+pub mod Mapped
 pub mod Empty
 pub mod Sizes
 pub mod Held
@@ -24,6 +26,7 @@ pub mod Ending
 pub mod Lawful
 pub mod Fronts
 pub mod Assembled
+pub mod Rereads
 pub mod Mounts
 pub mod Committed
 pub mod Formatted
@@ -43,5 +46,4 @@ pub mod Wanted
 pub mod Stagings
 pub mod RangeEnds
 pub mod Pended
-pub mod Rereads
 pub mod Finished

@@ -26,6 +26,8 @@ use Rattle.volume_tables.proofs.Roomed.{commit_left}
 use Rattle.volume_tables.proofs.Spared.{rises}
 use Rattle.volume_tables.proofs.Stagings.{on_ok_any}
 use Rattle.volume_tables.specs.Wants.{Needs, last_id, free_of, has_room, wanting, is_late, reply_of, IsReplied, IsWanting}
+use Rattle.volume_inside.specs.Rules.{AreBare}
+use Rattle.volume_tables.proofs.Mapped.{bare_has_maps}
 
 -- ---- replies
 
@@ -282,6 +284,7 @@ module _ {D : Type 0} {d : Ghosts D} (t u : Tables D d) where
       → (stopped u ≡ false → free_in (states_of u) + deferred_in (states_of u) ≡ free_in (states_of t) + deferred_in (states_of t)) → IsSound u
   sound_same sound clusters now ran counts = record {
     rules = subst (λ (p : ℕ × Typed). RulesHold p.0 p.1) (λ i. (sym clusters i, sym now i)) sound.rules;
+    maps = bare_has_maps u (subst (λ (q : Typed). AreBare q.files) (sym now) sound.rules.bare);
     counted = λ runs.
         let counted = sound.counted (ran runs) in
         let same = counts runs in

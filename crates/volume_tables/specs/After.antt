@@ -1,14 +1,32 @@
 -- Calls that make nothing durable, and calls that only read, one after another.
 use Rattle.std.specs.Prelude.{◌≡◌, refl}
 use Rattle.std.proofs.Common.{sym, ◌∙◌, subst, arith}
-use Rattle.vdisk.specs.Steps.{Keeps, keeps_then, keeps_start}
+use Rattle.vdisk.specs.Disk.{DiskState}
+use Rattle.vdisk.specs.Steps.{Keeps, keeps_then, keeps_start, keeps_as}
 use Rattle.vdisk.specs.declared.disk.Disk.{Ghosts}
 use Rattle.meta_log.specs.Meta.{meta_of}
+use Rattle.meta_log.specs.Opened.{IsOnlyRead}
 use Rattle.volume_inside.specs.Layout.{half_bytes, journal_at}
 use Rattle.volume_inside.specs.Shows.{Area, Shows, Kept}
 use Rattle.volume_tables.specs.Reads.{ReadsOnly}
 use Rattle.volume_tables.specs.Tables.{disk_of, area_of, Leaves}
 use Rattle.volume_tables.specs.declared.tables.Tables.{Tables}
+
+-- a disk that was only read, and was only read again
+pub only_then : (a b c : DiskState) → IsOnlyRead a b → IsOnlyRead b c → IsOnlyRead a c
+only_then a b c first second = record {
+  keeps = keeps_then a b c a.may_leave first.keeps
+      (keeps_as b c b.may_leave a.may_leave (λ image left. first.keeps.now image left) second.keeps);
+  image = second.image ∙ first.image;
+  later = omega (arith, first.later, second.later);
+}
+
+only_start : (s : DiskState) → IsOnlyRead s s
+only_start s = record {
+  keeps = keeps_start s s.may_leave (λ image left. left);
+  image = refl;
+  later = omega arith;
+}
 
 module _ {D : Type 0} {d : Ghosts D} where
   pub area_same : (a b : Tables D d) → b.clusters ≡ a.clusters → area_of b ≡ area_of a
@@ -59,6 +77,7 @@ module _ {D : Type 0} {d : Ghosts D} where
     staged = second.staged ∙ first.staged;
     checkpoint = second.checkpoint ∙ first.checkpoint;
     running = second.running ∙ first.running;
+    only = only_then (disk_of a) (disk_of b) (disk_of c) first.only second.only;
   }
 
   pub reads_self : (t : Tables D d) → d.is_same t.log.disk t.log.disk → ReadsOnly t t
@@ -71,4 +90,5 @@ module _ {D : Type 0} {d : Ghosts D} where
     staged = refl;
     checkpoint = refl;
     running = refl;
+    only = only_start (disk_of t);
   }

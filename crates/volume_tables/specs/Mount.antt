@@ -1,14 +1,19 @@
 -- Why an image is not mounted.
-use Rattle.std.specs.Prelude.{◌≡◌, ℕ, IsTrue, Ok, Err}
+use Rattle.std.specs.Prelude.{◌≡◌, ◌⊎◌, ℕ, IsTrue, Ok, Err}
 use Rattle.vdisk.specs.Disk.{DiskState}
 use Rattle.vdisk.specs.Causes.{Rose}
+use Rattle.vdisk.specs.declared.disk.Disk.{Ghosts}
 use Rattle.meta_log.specs.Meta.{meta_of}
 use Rattle.meta_log.specs.declared.fault.MetaFault.{MetaFault}
 use Rattle.meta_log.specs.declared.fault.MetaFault.TheVariants as log
 use Rattle.byte_map.specs.Words.{Map}
-use Rattle.volume_inside.specs.Rules.{IsLeastBroken}
+use Rattle.volume_inside.specs.Rules.{IsLeastBrokenOfTables}
 use Rattle.volume_inside.specs.InsideOf.{Reading, InsideOf, HasVersion}
 use Rattle.volume_inside.specs.Layout.{journal_at, half_bytes}
+use Rattle.volume_tables.specs.Reads.{IsTold}
+use Rattle.volume_tables.specs.Tables.{inside_now, disk_of}
+use Rattle.volume_tables.specs.declared.tables.Tables.{Tables}
+use Rattle.volume_inside.specs.ChunkRules.{MapsHold}
 use Rattle.volume_inside.specs.declared.mount_fault.MountFault.{MountFault}
 use Rattle.volume_inside.specs.declared.mount_fault.MountFault.TheVariants.{NotVolume, VersionUnknown, SizeDiffers, MetaDamaged, BadTable, Failed, Memory}
 
@@ -60,9 +65,15 @@ IsInnerFault n old new (VersionUnknown found) =
     IsTrue old.tells → (m : Map) × (read_meta n old.image ≡ Ok m) × HasVersion found m
 IsInnerFault n old new (BadTable rule) =
     IsTrue old.tells → (m : Map) × (read_meta n old.image ≡ Ok m) × ((found : ℕ) → HasVersion found m → ⊥)
-    × IsLeastBroken n m rule
+    × IsLeastBrokenOfTables n m rule
 IsInnerFault n old new Failed = Rose old.faults new.faults
 IsInnerFault n old new Memory = Unit {0}
+
+-- why tables that meet all other rules are not mounted: a map of a base is not as it should be, or the device failed
+abbrev pub IsMapsFault : {D : Type 0} {d : Ghosts D} → Tables D d → DiskState → MountFault → Type 0
+IsMapsFault t new fault =
+    ((fault ≡ BadTable 12) × (IsTold t → MapsHold (inside_now t) → ⊥))
+    ⊎ ((fault ≡ Failed) × Rose (disk_of t).faults new.faults)
 
 -- what a refusal to open the journal is for a mount
 abbrev pub mount_fault_of : MetaFault → MountFault

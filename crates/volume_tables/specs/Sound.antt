@@ -14,7 +14,7 @@ use Rattle.volume_inside.specs.Rules.{RulesHold}
 use Rattle.volume_inside.specs.Shows.{Kept, ShowsEither}
 use Rattle.volume_tables.specs.Log.{log_epoch, IsSameLog}
 use Rattle.volume_tables.specs.Tables.{tables_now, view_now, states_of, disk_of, area_of, clusters_in, stopped}
-use Rattle.volume_tables.specs.Tables.{would_wear, IsTables}
+use Rattle.volume_tables.specs.Tables.{would_wear, IsTables, HasMaps}
 use Rattle.volume_tables.specs.declared.tables.Tables.{Tables}
 
 -- WHAT A REFUSAL LEAVES of what has an epoch, as tables have, or the state of a volume: all, where it comes before
@@ -38,10 +38,11 @@ module _ {D : Type 0} {d : Ghosts D} where
   Spares old new result =
       (fault : Fault) → result ≡ Err fault → IsSpared (λ (t : Tables D d). log_epoch t.log) fault old new
 
-  -- Between two calls the tables meet the rules, and each cluster that they do not name is free, or will be free after
-  -- the next commit. A call that a failed device stopped may leave clusters that nobody names.
+  -- Between two calls the tables and the maps of their bases meet the rules, and each cluster that they do not name is
+  -- free, or will be free after the next commit. A call that a failed device stopped may leave clusters that nobody names.
   pub record IsSound (t : Tables D d) : Type 0 where
     pub rules : RulesHold (clusters_in t) (tables_now t)
+    pub maps : HasMaps t
     pub counted : stopped t ≡ false →
         free_in (states_of t) + deferred_in (states_of t) + length (clusters_of (tables_now t))
         ≡ data_clusters (clusters_in t)

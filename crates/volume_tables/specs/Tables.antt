@@ -13,6 +13,7 @@ use Rattle.cluster_space.specs.States.{IsIn, free_in}
 use Rattle.volume_inside.specs.Layout.{half_bytes, journal_at, first_data_cluster}
 use Rattle.volume_inside.specs.Typed.{Typed, typed_of}
 use Rattle.volume_inside.specs.Inside.{Inside, inside_at}
+use Rattle.volume_inside.specs.ChunkRules.{MapsHold}
 use Rattle.volume_inside.specs.View.{view}
 use Rattle.volume_inside.specs.Ranges.{IsApart}
 use Rattle.volume_inside.specs.Named.{named, clusters_of}
@@ -117,6 +118,10 @@ module _ {D : Type 0} {d : Ghosts D} where
     pub stored_apart : IsApart journal_at (2 * half_bytes t.clusters) (named stored)
     pub free : (k : ℕ) → IsIn (states_of t) k Free → IsOut (first_data_cluster t.clusters + k) (clusters_of stored)
     pub tails : AreTailsFree stored (tables_now t).chunks
+
+  -- where it is known what is stored, the maps of the bases of the tables now are as they should be
+  abbrev pub HasMaps : Tables D d → Type 0
+  HasMaps t = (stored : Typed) → IsTables t stored → MapsHold (inside_now t)
 
   -- What a call that makes nothing durable leaves: at any moment of it a crash shows what was kept.
   pub record Leaves (old new : Tables D d) : Type 0 where

@@ -10,10 +10,10 @@ use plain_volume::Fault;
 use vdisk::Disk;
 
 impl<D: Disk> Tables<D> {
-    ghost use Rattle.volume_tables.specs.Tables.{tables_now, stopped};
+    ghost use Rattle.volume_tables.specs.Tables.{tables_now, stopped, HasMaps};
     ghost use Rattle.volume_tables.specs.Commits.{IsCommitted};
 
-    /// Makes the tables durable, which meet the rules, with the results of jobs. A crash at any moment shows what was
+    /// Makes the tables durable, which meet the rules as the maps of their bases do, with the results of jobs. A crash at any moment shows what was
     /// kept, or the tables now; after Ok the tables now are kept, and clusters that were deferred are free. After
     /// `Worn` what is stored is as it was, the tables now are too, and each later commit is refused so; after `Failed`
     /// the tables are stopped. Where nothing is due the disk is not called. What waits is told exactly after Ok and
@@ -21,6 +21,7 @@ impl<D: Disk> Tables<D> {
     pub fn commit(&mut self) -> Result<(), Fault>
         requires running { stopped self.old ≡ false }
         requires rules { RulesHold self.old.clusters (tables_now self.old) }
+        requires maps { HasMaps self.old }
         ensures { IsCommitted self.old self.new result }
     {
         if self.worn {

@@ -13,6 +13,7 @@ mod formatting;
 mod front;
 mod ids;
 pub mod laws;
+mod maps;
 mod mounting;
 mod names;
 mod numbers;

@@ -23,6 +23,7 @@ ghost use Rattle.volume_tables.specs.Tables.{tables_now, inside_now, view_now, a
 
 use crate::ends::JobEnds;
 use crate::front::read_front;
+use crate::maps::with_maps;
 use crate::raw_names;
 use crate::tables::Tables;
 use meta_log::{MetaFault, MetaLog};
@@ -113,7 +114,7 @@ pub(crate) fn assemble<D: Disk>(log: MetaLog<D>, clusters: u32, found: Checked) 
     }
 }
 
-/// Opens the journal of an image of so many clusters, and checks its tables.
+/// Opens the journal of an image of so many clusters, and checks its tables, but for the maps of bases.
 fn open_tables<D: Disk>(alloc: Global, disk: D, clusters: u32) -> Result<Tables<D>, (D, MountFault)>
     requires least { LEAST_CLUSTERS ≤ clusters }
     requires most { clusters ≤ MOST_CLUSTERS }
@@ -140,7 +141,8 @@ fn open_tables<D: Disk>(alloc: Global, disk: D, clusters: u32) -> Result<Tables<
 impl<D: Disk> Tables<D> {
     /// Mounts the image of a disk, which is synced and read, and not written. A refusal hands the disk back, with the
     /// first reason why its image has no inside: it does not begin with a superblock, it is not as long as that says,
-    /// the live half of its journal is damaged, the version of its tables is not known, or a rule of them is broken.
+    /// the live half of its journal is damaged, the version of its tables is not known, or a rule is broken, of which
+    /// that on the maps of bases is the last.
     pub fn mount(alloc: Global, mut disk: D) -> Result<Tables<D>, (D, MountFault)>
         ensures inside { IsTrue (D.state disk).tells →
             IfOk result (λ tables. InsideOf read_meta (D.state disk).image (Ok (inside_now tables))) }
@@ -159,9 +161,13 @@ impl<D: Disk> Tables<D> {
         ensures same { IfOk result (λ tables. D.is_same disk tables.log.disk) }
         ensures same_err { IfErr result (λ e. D.is_same disk e.0) }
     {
-        match read_front(&mut disk) {
-            Ok(clusters) => open_tables(alloc, disk, clusters),
-            Err(fault) => Err((disk, fault)),
+        let clusters = match read_front(&mut disk) {
+            Ok(clusters) => clusters,
+            Err(fault) => return Err((disk, fault)),
+        };
+        match open_tables(alloc, disk, clusters) {
+            Ok(tables) => with_maps(tables),
+            Err(refusal) => Err(refusal),
         }
     }
 }

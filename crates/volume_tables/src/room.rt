@@ -11,7 +11,7 @@ use vdisk::Disk;
 pub const MOST_RECORDS: usize = 65_472;
 
 impl<D: Disk> Tables<D> {
-    ghost use Rattle.volume_tables.specs.Tables.{tables_now, stopped, IsRoomFor};
+    ghost use Rattle.volume_tables.specs.Tables.{tables_now, stopped, HasMaps, IsRoomFor};
     ghost use Rattle.volume_tables.specs.Rooms.{IsRoomEnsured};
 
     /// Whether records of so many bytes and so many clusters find room without a commit.
@@ -32,6 +32,7 @@ impl<D: Disk> Tables<D> {
         requires running { stopped self.old ≡ false }
         requires records { records ≤ MOST_RECORDS }
         requires rules { RulesHold self.old.clusters (tables_now self.old) }
+        requires maps { HasMaps self.old }
         ensures { IsRoomEnsured records clusters self.old self.new result }
     {
         let free = self.space.free_count() as u64 + self.space.deferred_count() as u64;

@@ -47,12 +47,12 @@ returns-in-Ok g c =
     let tables = commit_tables t l s.quiet s.tables (log_now new) c.stage_ends.new.ends r.now s.ends in
     record {
       moments = λ stored w is kept.
-          commit_moments t l s.quiet s.tables stored w (log_state new) volume is kept (λ m log. r.moments m log);
+          commit_moments t l s.quiet s.tables stored w (log_state new) volume (c.requires.maps stored is) is kept (λ m log. r.moments m log);
       kept = λ stored w is kept.
           handed_back (Kept (area_of t) (log_state new) (view_at (tables_now t) (disk_of t).image)) c.commit.result _
           c.in-Ok.ensures
           (on_ok_weaker c.commit.result
-          (λ settled. commit_kept t l s.quiet s.tables stored w (log_state new) volume is kept settled)
+          (λ settled. commit_kept t l s.quiet s.tables stored w (log_state new) volume (c.requires.maps stored is) is kept settled)
           (r.settled is.map (s.quiet.log is.map is.log)));
       tables = λ stored is.
           committed t _ (log_now l)
@@ -96,7 +96,7 @@ returns-in-Err g c =
     let tables = commit_tables t l s.quiet s.tables (log_now new) c.stage_ends.new.ends r.now s.ends in
     record {
       moments = λ stored w is kept.
-          commit_moments t l s.quiet s.tables stored w (log_state new) volume is kept (λ m log. r.moments m log);
+          commit_moments t l s.quiet s.tables stored w (log_state new) volume (c.requires.maps stored is) is kept (λ m log. r.moments m log);
       kept = λ stored w is kept. tt;
       tables = λ stored is. tt;
       still_stored = λ stored is worn.

@@ -55,6 +55,12 @@ returns-clause-reads g c =
       staged = s.staged;
       checkpoint = ap (λ (m : Map). checkpoint_length m) s.now;
       running = s.stopped;
+      only = record {
+        keeps = keeps_read (disk_of t) (log_state c.read_data.new.self) (disk_of t).may_leave s.untouched
+            (λ image left. left);
+        image = s.untouched.image;
+        later = s.later;
+      };
     }
 
 pub of_log-requires : goal.of_log-requires
