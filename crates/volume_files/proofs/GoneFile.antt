@@ -41,6 +41,7 @@ use Rattle.volume_files.specs.Names.{is_other, without_name}
 use Rattle.volume_files.proofs.CutExtents.{range_is_behind}
 use Rattle.volume_files.proofs.Found.{names_in_order}
 use Rattle.volume_files.proofs.OneName.{only_name}
+use Rattle.volume_tables.proofs.Mapped.{rules_have_maps}
 
 -- ---- tests
 
@@ -156,11 +157,15 @@ module _ {D : Type 0} {d : Ghosts D} (t m s : Tables D d) (name : List ℕ) (id 
       ∙ sym (ap (λ (o : Outcome). left_by o (view_now t) reply.Done) answered_gone)
 
   pub sound_gone : IsSound s
-  sound_gone = record {
-    rules = subst (λ (p : ℕ × Typed). RulesHold p.0 p.1) (λ i. (sym staged.leaves.clusters i, sym changed i))
-        (rules_deleted (clusters_in m) (tables_now m) sound.rules name id (names_in_order m) named (is_other name)
-        (λ x. not (x == id)) (λ k. not (k.0 == id))
-        (only_name name) (only_file id) (only_blocks id));
-    counted = λ run. staged.counts ∙ sound.counted (sym staged.running ∙ run)
-        ∙ ap (λ (k : ℕ). data_clusters k) (sym staged.leaves.clusters);
-  }
+  sound_gone =
+      let rules : RulesHold (clusters_in s) (tables_now s) =
+      subst (λ (p : ℕ × Typed). RulesHold p.0 p.1) (λ i. (sym staged.leaves.clusters i, sym changed i))
+      (rules_deleted (clusters_in m) (tables_now m) sound.rules name id (names_in_order m) named (is_other name)
+      (λ x. not (x == id)) (λ k. not (k.0 == id))
+      (only_name name) (only_file id) (only_blocks id)) in
+      record {
+        rules = rules;
+        maps = rules_have_maps s rules;
+        counted = λ run. staged.counts ∙ sound.counted (sym staged.running ∙ run)
+            ∙ ap (λ (k : ℕ). data_clusters k) (sym staged.leaves.clusters);
+      }

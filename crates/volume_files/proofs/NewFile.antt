@@ -42,6 +42,7 @@ use Rattle.volume_tables.specs.Sound.{IsSound}
 use Rattle.volume_tables.specs.Wants.{last_id}
 use Rattle.volume_files.specs.Names.{empty_file, with_new, IsNewName, IsRefused}
 use Rattle.volume_files.proofs.Found.{names_in_order, length_of_view}
+use Rattle.volume_tables.proofs.Mapped.{rules_have_maps}
 
 -- ---- the record of a file that was just put, above all others, is dropped
 
@@ -182,14 +183,18 @@ module _ {D : Type 0} {d : Ghosts D} (t m p : Tables D d) (name : List ℕ) (new
 
   sound_as : (q : Typed) → tables_now p ≡ q → RulesHold (clusters_in m) q → clusters_of q ≡ clusters_of (tables_now m)
       → IsSound p
-  sound_as q is rules clusters = record {
-    rules = subst (λ (x : ℕ × Typed). RulesHold x.0 x.1) (λ i. (sym leaves.clusters i, sym is i)) rules;
-    counted = λ runs.
-        let named : clusters_of (tables_now p) ≡ clusters_of (tables_now m) = ap (λ (x : Typed). clusters_of x) is
-        ∙ clusters in
-        (λ i. free_in (states i) + deferred_in (states i) + length (named i))
-        ∙ sound.counted (sym running ∙ runs) ∙ ap (λ (k : ℕ). data_clusters k) (sym leaves.clusters);
-  }
+  sound_as q is held clusters =
+      let rules : RulesHold (clusters_in p) (tables_now p) =
+      subst (λ (x : ℕ × Typed). RulesHold x.0 x.1) (λ i. (sym leaves.clusters i, sym is i)) held in
+      record {
+        rules = rules;
+        maps = rules_have_maps p rules;
+        counted = λ runs.
+            let named : clusters_of (tables_now p) ≡ clusters_of (tables_now m) = ap (λ (x : Typed). clusters_of x) is
+            ∙ clusters in
+            (λ i. free_in (states i) + deferred_in (states i) + length (named i))
+            ∙ sound.counted (sym running ∙ runs) ∙ ap (λ (k : ℕ). data_clusters k) (sym leaves.clusters);
+      }
 
   pub sound_made : IsSound p
   sound_made = elim (ok_or_err r ok err) [

@@ -41,6 +41,7 @@ use Rattle.volume_files.proofs.Found.{names_in_order}
 use Rattle.volume_files.proofs.OneName.{only_name}
 use Rattle.groundwork.proofs.Bools.{both_true}
 use Rattle.groundwork.proofs.Orders.{is_less}
+use Rattle.volume_tables.proofs.Mapped.{rules_have_maps}
 
 -- ---- a name is put, and another one dropped, in any order
 
@@ -195,11 +196,15 @@ module _ {D : Type 0} {d : Ghosts D} (t m p : Tables D d) (from to : List ℕ) (
       ∙ ap (λ (j : Inside). view j) inside) err
 
   sound_as : (q : Typed) → tables_now p ≡ q → RulesHold (clusters_in m) q → IsSound p
-  sound_as q same rules = record {
-    rules = subst (λ (x : ℕ × Typed). RulesHold x.0 x.1) (λ i. (sym staged.leaves.clusters i, sym same i)) rules;
-    counted = λ run. staged.counts ∙ sound.counted (sym staged.running ∙ run)
-        ∙ ap (λ (k : ℕ). data_clusters k) (sym staged.leaves.clusters);
-  }
+  sound_as q same held =
+      let rules : RulesHold (clusters_in p) (tables_now p) =
+      subst (λ (x : ℕ × Typed). RulesHold x.0 x.1) (λ i. (sym staged.leaves.clusters i, sym same i)) held in
+      record {
+        rules = rules;
+        maps = rules_have_maps p rules;
+        counted = λ run. staged.counts ∙ sound.counted (sym staged.running ∙ run)
+            ∙ ap (λ (k : ℕ). data_clusters k) (sym staged.leaves.clusters);
+      }
 
   pub sound_put : IsSound p
   sound_put = elim (ok_or_err r ok err) [

@@ -33,6 +33,7 @@ use Rattle.volume_files.proofs.Counted.{extents_in_order}
 use Rattle.volume_files.proofs.CutCells.{view_resized}
 use Rattle.volume_files.proofs.CutExtents.{rules_resized}
 use Rattle.volume_files.proofs.Found.{names_in_order}
+use Rattle.volume_tables.proofs.Mapped.{rules_have_maps}
 
 -- the id of a file was drawn
 pub small_id : (n : ℕ) (t : Typed) → RulesHold n t → (id : ℕ) (file : FileRecord)
@@ -75,11 +76,15 @@ module _ {D : Type 0} {d : Ghosts D} (t : Tables D d) (name : List ℕ) (len id 
     there = ap (λ (q : Typed). find nat_cmp id q.files) now ∙ is.there
 
     pub sound_resized : IsSound s
-    sound_resized = record {
-      rules = subst (λ (p : ℕ × Typed). RulesHold p.0 p.1) (λ i. (sym staged.leaves.clusters i, sym changed i))
-          (rules_resized id len (tables_now u) (clusters_in u) sound.rules (extents_in_order u u) file there few);
-      counted = λ run. staged.counts ∙ sound.counted runs ∙ ap data_clusters (sym staged.leaves.clusters);
-    }
+    sound_resized =
+        let rules : RulesHold (clusters_in s) (tables_now s) =
+        subst (λ (p : ℕ × Typed). RulesHold p.0 p.1) (λ i. (sym staged.leaves.clusters i, sym changed i))
+        (rules_resized id len (tables_now u) (clusters_in u) sound.rules (extents_in_order u u) file there few) in
+        record {
+          rules = rules;
+          maps = rules_have_maps s rules;
+          counted = λ run. staged.counts ∙ sound.counted runs ∙ ap data_clusters (sym staged.leaves.clusters);
+        }
 
     pub view_left : view_now s ≡ after (view_now t) (SetLength name len) reply.Done
     view_left =

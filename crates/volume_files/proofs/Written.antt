@@ -33,6 +33,7 @@ use Rattle.volume_files.proofs.Extents.{exact}
 use Rattle.volume_files.proofs.Overwritten.{cells_overwritten}
 use Rattle.volume_files.proofs.Taking.{told}
 use Rattle.volume_files.proofs.Touched.{cell_named}
+use Rattle.volume_tables.proofs.Mapped.{rules_have_maps}
 
 -- what always holds, also after a refusal
 pub on_err_any : {A E P : Type 0} (r : Result A E) → P → OnErr r P
@@ -190,18 +191,26 @@ module _ {D : Type 0} {d : Ghosts D} (t b s : Tables D d) (id at : ℕ) (grown :
   pub sound_written : IsSound t → stopped t ≡ false → s.clusters ≡ t.clusters → s.clusters ≡ b.clusters
       → RulesHold b.clusters (with_file id grown (tables_now b))
       → states_of s ≡ states_of b → (stopped s ≡ false → stopped b ≡ false) → LosesNone t b → IsSound s
-  sound_written sound running clusters after rules states ran loses = record {
-    rules = subst (λ (p : ℕ × Typed). RulesHold p.0 p.1) (λ i. (sym after i, sym set i)) rules;
-    counted = λ runs.
-        let count : accounted s ≡ accounted b = λ i. told (states i) (set i) in
-        count ∙ loses (ran runs) ∙ sound.counted running ∙ ap (λ (n : ℕ). data_clusters n) (sym clusters);
-  }
+  sound_written sound running clusters after held states ran loses =
+      let rules : RulesHold s.clusters (tables_now s) =
+      subst (λ (p : ℕ × Typed). RulesHold p.0 p.1) (λ i. (sym after i, sym set i)) held in
+      record {
+        rules = rules;
+        maps = rules_have_maps s rules;
+        counted = λ runs.
+            let count : accounted s ≡ accounted b = λ i. told (states i) (set i) in
+            count ∙ loses (ran runs) ∙ sound.counted running ∙ ap (λ (n : ℕ). data_clusters n) (sym clusters);
+      }
 
 -- a call that was refused and changed no table
 pub sound_refused : {D : Type 0} {d : Ghosts D} (t s : Tables D d) → IsSound t → stopped t ≡ false
     → s.clusters ≡ t.clusters → tables_now s ≡ tables_now t
     → LosesNone t s → IsSound s
-sound_refused t s sound running clusters same loses = record {
-  rules = subst (λ (p : ℕ × Typed). RulesHold p.0 p.1) (λ i. (sym clusters i, sym same i)) sound.rules;
-  counted = λ runs. loses runs ∙ sound.counted running ∙ ap (λ (n : ℕ). data_clusters n) (sym clusters);
-}
+sound_refused t s sound running clusters same loses =
+    let rules : RulesHold s.clusters (tables_now s) =
+    subst (λ (p : ℕ × Typed). RulesHold p.0 p.1) (λ i. (sym clusters i, sym same i)) sound.rules in
+    record {
+      rules = rules;
+      maps = rules_have_maps s rules;
+      counted = λ runs. loses runs ∙ sound.counted running ∙ ap (λ (n : ℕ). data_clusters n) (sym clusters);
+    }

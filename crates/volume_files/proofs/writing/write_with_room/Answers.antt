@@ -16,6 +16,7 @@ use Rattle.volume_files.specs.Writing.{blocks_up_to}
 use Rattle.volume_files.proofs.Owned.{own_with_file}
 use Rattle.volume_files.proofs.Setting.{held_now, on_ok_there}
 use Rattle.volume_files.proofs.Written.{rules_grown, grown_short, cells_written, others_written, on_err_any}
+use Rattle.volume_files.proofs.Written.{sound_refused, sound_written}
 use Rattle.volume_files.proofs.Spent.{spends_none, spends_then, spends_record}
 use Rattle.volume_files.proofs.Insides.{file_then}
 use Rattle.volume_files.proofs.writing.write_with_room.Goals as goal
@@ -142,3 +143,25 @@ returns-clause-taken g c =
     let free : free_in (states_of c.set_file.new.self) ≡ free_in (states_of c.write_blocks.new.tables) =
     ap (λ (xs : List State). free_in xs) c.set_file.ensures.states in
     omega (arith, same, free, c.in_ok-write_blocks.ensures.taken)
+
+pub returns-in_err-write_blocks-clause-sound : goal.returns-in_err-write_blocks-clause-sound
+returns-in_err-write_blocks-clause-sound g c =
+    let leaves = c.write_blocks.ensures.leaves in
+    sound_refused c.args.tables.now c.write_blocks.new.tables c.requires.sound c.requires.running leaves.clusters
+    c.in_err-write_blocks.ensures.err c.write_blocks.ensures.loses_none
+
+pub returns-clause-sound : goal.returns-clause-sound
+returns-clause-sound g c =
+    let t = c.args.tables.now in
+    let b = c.write_blocks.new.tables in
+    let s = c.set_file.new.self in
+    let was = c.unwrap-grown.result in
+    let grown : FileRecord = record was { length = c.max.result } in
+    let there = subst (λ (o : Option FileRecord). IsSome o) (sym
+    (ap (λ (q : Typed). find nat_cmp c.args.file q.files) c.in_ok-write_blocks.ensures.ok.rest)) c.requires.there in
+    let set = on_ok_there c.set_file.result (c.set_file.ensures.set.in_place there) c.set_file.ensures.ok in
+    let first = c.write_blocks.ensures.leaves in
+    let second = c.set_file.ensures.leaves in
+    sound_written t b s c.args.file c.args.at grown set c.set_file.ensures.set.image c.requires.sound c.requires.running
+    (second.clusters ∙ first.clusters) second.clusters c.in_ok-write_blocks.ensures.rules c.set_file.ensures.states
+    (λ runs. sym c.set_file.ensures.set.running ∙ runs) c.write_blocks.ensures.loses_none
