@@ -43,6 +43,7 @@ use Rattle.volume_tables.specs.declared.tables.Tables.{Tables}
 use Rattle.volume_tables.proofs.Answers.{ok_or_err}
 use Rattle.volume_tables.proofs.Endured.{endures_leaves}
 use Rattle.volume_tables.proofs.Stagings.{on_ok_any}
+use Rattle.volume_tables.proofs.Mapped.{rules_have_maps}
 use Rattle.chunk_container.specs.declared.containers.Target.{Target}
 use Rattle.chunk_container.specs.Appending.{append_needs, append_bytes, more_pages, longer, with_longer, IsTargetIn, IsAppended, AreBytesThere, IsAppendCall}
 use Rattle.chunk_container.specs.Bases.{bases_now}
@@ -155,6 +156,7 @@ module _ {D : Type 0} {d : Ghosts D} (target : Target) (kind count : ℕ) (t m :
     sound_then : LosesNone m p → IsSound p
     sound_then loses = record {
       rules = rules_then;
+      maps = rules_have_maps p rules_then;
       counted = λ runs. loses runs ∙ room.sound.counted room.runs ∙ ap data_clusters (sym leaves.clusters);
     }
 

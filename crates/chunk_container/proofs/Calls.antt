@@ -29,6 +29,7 @@ use Rattle.volume_tables.specs.declared.tables.Tables.{Tables}
 use Rattle.volume_tables.proofs.Answers.{ok_or_err}
 use Rattle.volume_tables.proofs.Endured.{endures_leaves}
 use Rattle.volume_tables.proofs.Stagings.{on_ok_any}
+use Rattle.volume_tables.proofs.Mapped.{rules_have_maps}
 use Rattle.chunk_container.specs.Bases.{bases_now}
 use Rattle.chunk_container.specs.Calls.{ArePut, IsRowCall}
 use Rattle.chunk_container.proofs.RowViews.{view_rows}
@@ -94,8 +95,11 @@ module _ {D : Type 0} {d : Ghosts D} (takes : Type 0) (change : Typed → Typed)
       (p : Tables D d) (r : Result (Unit {0}) Fault) (put : ArePut takes change bytes m p r) where
     sound_as : (q : Typed) → tables_now p ≡ q → RulesHold (clusters_in m) q → clusters_of q ≡ clusters_of (tables_now m)
         → IsSound p
-    sound_as q is holds named_same = record {
-      rules = subst (λ (x : ℕ × Typed). RulesHold x.0 x.1) (λ i. (sym put.leaves.clusters i, sym is i)) holds;
+    sound_as q is holds named_same =
+      let rules_p : RulesHold (clusters_in p) (tables_now p) =
+      subst (λ (x : ℕ × Typed). RulesHold x.0 x.1) (λ i. (sym put.leaves.clusters i, sym is i)) holds in record {
+      rules = rules_p;
+      maps = rules_have_maps p rules_p;
       counted = λ runs.
           let named : clusters_of (tables_now p) ≡ clusters_of (tables_now m) = ap (λ (x : Typed). clusters_of x) is
           ∙ named_same in

@@ -28,6 +28,7 @@ use Rattle.volume_tables.specs.Setters.{IsDroppedIn}
 use Rattle.volume_tables.specs.Sound.{IsSound}
 use Rattle.volume_tables.specs.Tables.{tables_now, states_of, clusters_in, stopped}
 use Rattle.volume_tables.specs.declared.tables.Tables.{Tables}
+use Rattle.volume_tables.proofs.Mapped.{rules_have_maps}
 use Rattle.chunk_container.specs.Calls.{IsSoundWithout}
 use Rattle.chunk_container.specs.Rows.{without_copy, without_copies, without_row, IsUntargeted, AreOthersGone}
 use Rattle.chunk_container.proofs.Finds.{each_both, each_kept, found_kept, found_dropped}
@@ -269,7 +270,11 @@ module _ {D : Type 0} {d : Ghosts D} (change : Typed → Typed) (bytes : ℕ) (o
       (λ i. (sym drop.leaves.clusters i, sym drop.tables i)) rules
 
   pub sound_left : IsSound old → RulesHold (clusters_in old) (change (tables_now old)) → IsSound new
-  sound_left sound rules = record { rules = rules_left (λ q. q) rules; counted = counted_left sound.counted }
+  sound_left sound rules = let left = rules_left (λ q. q) rules in record {
+    rules = left;
+    maps = rules_have_maps new left;
+    counted = counted_left sound.counted;
+  }
 
   pub without_left : (id : ℕ) → IsSound old → RulesHold (clusters_in old) (without_copies id (change (tables_now old)))
       → IsSoundWithout id new
@@ -298,14 +303,19 @@ module _ {D : Type 0} {d : Ghosts D} (k : CopyKey) (bytes : ℕ) (old new : Tabl
     counted = counted_left (without_copy k) bytes old new drop (λ q. refl) sound.counted;
   }
 
+  last_rules : IsSoundWithout k.0 old → AreOthersGone (tables_now old).chunks.places k
+      → RulesHold (clusters_in new) (tables_now new)
+  last_rules sound others = rules_left (without_copy k) bytes old new drop (λ q. refl) (λ q. q)
+      (subst (λ (ps : List (CopyKey × Place)). RulesHold (clusters_in old)
+      (record (tables_now old) { chunks = record (tables_now old).chunks { places = ps } }))
+      (none_left k.0 (where_key pair_cmp (λ q. not (eq_by_cmp pair_cmp k q)) (tables_now old).chunks.places)
+      (gone_copy k (tables_now old).chunks.places others))
+      (rules_gone sound))
+
   pub last_left : IsSoundWithout k.0 old → AreOthersGone (tables_now old).chunks.places k → IsSound new
   last_left sound others = record {
-    rules = rules_left (without_copy k) bytes old new drop (λ q. refl) (λ q. q)
-        (subst (λ (ps : List (CopyKey × Place)). RulesHold (clusters_in old)
-        (record (tables_now old) { chunks = record (tables_now old).chunks { places = ps } }))
-        (none_left k.0 (where_key pair_cmp (λ q. not (eq_by_cmp pair_cmp k q)) (tables_now old).chunks.places)
-        (gone_copy k (tables_now old).chunks.places others))
-        (rules_gone sound));
+    rules = last_rules sound others;
+    maps = rules_have_maps new (last_rules sound others);
     counted = counted_left (without_copy k) bytes old new drop (λ q. refl) sound.counted;
   }
 
