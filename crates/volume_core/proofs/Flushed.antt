@@ -23,6 +23,7 @@ use Rattle.volume_tables.specs.declared.tables.Tables.{Tables}
 use Rattle.volume_tables.proofs.Leaving.{area_same}
 use Rattle.volume_tables.specs.Sound.{IsSound, IsKept}
 use Rattle.volume_core.specs.Wants.{IsWant}
+use Rattle.volume_tables.proofs.Mapped.{rules_have_maps}
 
 -- the reply to a flush, where it is known when a commit is refused
 pub flush_reply : (v : Volume) (wears : Bool) (before now : ℕ) (r : Result (Unit {0}) Fault)
@@ -90,11 +91,15 @@ module _ {D : Type 0} {d : Ghosts D} (a b : Tables D d) where
   pub sound_still : IsSound a → clusters_in b ≡ clusters_in a → tables_now b ≡ tables_now a
       → (stopped b ≡ false → free_in (states_of b) + deferred_in (states_of b)
       ≡ free_in (states_of a) + deferred_in (states_of a)) → (stopped b ≡ false → stopped a ≡ false) → IsSound b
-  sound_still sound clusters now counts ran = record {
-    rules = subst (λ (p : ℕ × Typed). RulesHold p.0 p.1) (λ i. (sym clusters i, sym now i)) sound.rules;
-    counted = λ runs. subst
-        (λ (p : ℕ × Typed). free_in (states_of b) + deferred_in (states_of b) + length (clusters_of p.1)
-        ≡ data_clusters p.0)
-        (λ i. (sym clusters i, sym now i))
-        (let was = sound.counted (ran runs) in omega (arith, was, counts runs));
-  }
+  sound_still sound clusters now counts ran =
+      let rules : RulesHold (clusters_in b) (tables_now b) =
+      subst (λ (p : ℕ × Typed). RulesHold p.0 p.1) (λ i. (sym clusters i, sym now i)) sound.rules in
+      record {
+        rules = rules;
+        maps = rules_have_maps b rules;
+        counted = λ runs. subst
+            (λ (p : ℕ × Typed). free_in (states_of b) + deferred_in (states_of b) + length (clusters_of p.1)
+            ≡ data_clusters p.0)
+            (λ i. (sym clusters i, sym now i))
+            (let was = sound.counted (ran runs) in omega (arith, was, counts runs));
+      }

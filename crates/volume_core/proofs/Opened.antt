@@ -24,6 +24,7 @@ use Rattle.volume_tables.specs.Sound.{IsSound}
 use Rattle.volume_core.specs.States.{state_at, left_in, IsStateOf, IsFreshState}
 use Rattle.volume_core.proofs.Counted.{filled_counts, filled_deferred}
 use Rattle.volume_core.proofs.Settled.{settled_pending, told_pending}
+use Rattle.volume_tables.proofs.Mapped.{rules_have_maps}
 
 fresh_view : (image : List ℕ) → view (inside_at fresh_tables image) ≡ []
 unfolding view
@@ -33,6 +34,7 @@ module _ {D : Type 0} {d : Ghosts D} (t : Tables D d) where
   pub found_sound : IsOpened t → IsSound t
   found_sound opened = record {
     rules = opened.rules;
+    maps = rules_have_maps t opened.rules;
     counted = λ runs. filled_counts (clusters_in t) (clusters_of (tables_now t)) (states_of t)
         (rules_data (clusters_in t) (tables_now t) opened.rules) opened.rules.clusters opened.space;
   }

@@ -10,7 +10,8 @@ use Rattle.volume_inside.specs.Layout.{data_clusters}
 use Rattle.volume_inside.specs.Named.{clusters_of}
 use Rattle.volume_inside.specs.Rules.{IsVolume}
 use Rattle.volume_inside.specs.Shows.{Kept}
-use Rattle.volume_inside.specs.Typed.{Typed}
+use Rattle.volume_inside.specs.ChunkRules.{MapsHold}
+use Rattle.volume_inside.specs.Typed.{Typed, typed_of}
 use Rattle.volume_tables.specs.Mount.{read_meta}
 use Rattle.volume_tables.specs.Tables.{tables_now, inside_now, disk_of, area_of, clusters_in, stopped, IsTables}
 use Rattle.volume_tables.specs.declared.tables.Tables.{Tables}
@@ -40,6 +41,7 @@ module _ {D : Type 0} {d : Ghosts D} where
           spells = spells;
           volume = subst (λ (m : Map). IsVolume u.clusters m) same has.volume;
           is = ap (λ (q : Typed). inside_at q s.image) (is.is ∙ sym now);
+          maps = subst (λ (m : Map). MapsHold (inside_at (typed_of m) s.image)) same has.maps;
         },
       )
 

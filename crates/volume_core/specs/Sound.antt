@@ -11,7 +11,7 @@ use Rattle.table_records.specs.declared.records.Extent.{Extent}
 use Rattle.table_records.specs.declared.records.ResultRecord.{ResultRecord}
 use Rattle.table_records.specs.declared.settings.Settings.{Settings}
 use Rattle.volume_inside.specs.Typed.{Typed, FileBlock}
-use Rattle.volume_inside.specs.RuleProps.{each_prop, chunks_prop}
+use Rattle.volume_inside.specs.RuleProps.{each_prop, chunks_prop, maps_prop}
 use Rattle.volume_inside.specs.Lists.{IsOut, IsOnce}
 use Rattle.volume_inside.specs.Rules.{IsVolumeRecord, AreSettings, IsResultRecord, RecordsHold, NameHolds}
 use Rattle.volume_inside.specs.ChunkRules.{CoverHolds, HasNoBase, MapRowHolds}
@@ -104,4 +104,4 @@ rules_prop n t = Prim.hlevel (
 
 module _ {D : Type 0} {d : Ghosts D} where
   pub sound_prop : (t : Tables D d) → IsProp (IsSound t)
-  sound_prop t = Prim.hlevel (props, rules_prop)
+  sound_prop t = Prim.hlevel (props, rules_prop, maps_prop)

@@ -5,7 +5,7 @@ use Rattle.volume_tables.specs.Tables.{disk_of, view_now}
 use Rattle.volume_tables.proofs.Endured.{endures_start}
 use Rattle.volume_core.proofs.Answered.{digest_replied}
 use Rattle.volume_core.proofs.Causes.{refused_not_failed}
-use Rattle.volume_core.proofs.Read.{read_endures}
+use Rattle.volume_core.proofs.Read.{read_endures, read_sound}
 use Rattle.volume_core.proofs.Adding.{nothing_adds, reads_add}
 use Rattle.volume_core.proofs.Moving.{reads_move, stays_move}
 use Rattle.volume_core.proofs.volume.Volume.digest.Goals as goal
@@ -46,3 +46,9 @@ returns-clause-moves g c =
 pub returns-in_err-file-clause-moves : goal.returns-in_err-file-clause-moves
 returns-in_err-file-clause-moves g c =
     stays_move c.args.self.now.tables (Digest c.args.name.now) _ refl refl
+
+pub invariant_of-self : goal.invariant_of-self
+invariant_of-self g c = record {
+  sound =
+      read_sound c.args.self.now.tables c.hash_file.new.tables c.hash_file.ensures.reads c.args.self.now.sound;
+}

@@ -6,7 +6,7 @@ use Rattle.volume_tables.proofs.Endured.{endures_start}
 use Rattle.volume_core.proofs.Answered.{read_replied}
 use Rattle.volume_core.proofs.Bare.{bare_read}
 use Rattle.volume_core.proofs.Causes.{refused_not_failed}
-use Rattle.volume_core.proofs.Read.{read_endures}
+use Rattle.volume_core.proofs.Read.{read_endures, read_sound}
 use Rattle.volume_core.proofs.Adding.{nothing_adds, reads_add}
 use Rattle.volume_core.proofs.Moving.{reads_move, stays_move}
 use Rattle.volume_core.proofs.volume.Volume.read_into.Goals as goal
@@ -68,3 +68,9 @@ pub returns-then-at-record-clause-moves : goal.returns-then-at-record-clause-mov
 returns-then-at-record-clause-moves g c =
     let call = Read c.args.name.now c.args.at (length c.args.out.now) in
     stays_move c.args.self.now.tables call _ refl refl
+
+pub invariant_of-self : goal.invariant_of-self
+invariant_of-self g c = record {
+  sound =
+      read_sound c.args.self.now.tables c.read_plain.new.tables c.read_plain.ensures.reads c.args.self.now.sound;
+}
