@@ -18,7 +18,7 @@ use Rattle.volume_inside.specs.Typed.{typed_of}
 use Rattle.volume_inside.specs.Inside.{Inside, inside_at}
 use Rattle.volume_inside.specs.Superblock.{HasSuperblock}
 use Rattle.volume_inside.specs.ChunkRules.{MapsHold}
-use Rattle.volume_inside.specs.Rules.{IsVolumeRecord, IsVolume, Broken, IsLeastBrokenOr, IsLeastBrokenOfTables, IsLeastBroken}
+use Rattle.volume_inside.specs.Rules.{IsVolumeRecord, IsVolume, Broken, IsLeastBrokenOfTables, IsLeastBroken}
 use Rattle.volume_inside.specs.InsideOf.{Reading, HasVersion, InsideOf}
 
 -- ---- one number of clusters

@@ -7,7 +7,7 @@ use Rattle.byte_map.specs.Words.{Map}
 use Rattle.plain_volume.specs.Volume.{Volume}
 use Rattle.volume_inside.specs.declared.layout.TheConstants.{CLUSTER_BYTES}
 use Rattle.volume_inside.specs.Typed.{typed_of}
-use Rattle.volume_inside.specs.Inside.{Inside, inside_at}
+use Rattle.volume_inside.specs.Inside.{inside_at}
 use Rattle.volume_inside.specs.View.{view}
 use Rattle.volume_inside.specs.Ranges.{IsApart, agrees_apart}
 use Rattle.volume_inside.specs.Named.{named}

@@ -1,5 +1,5 @@
 -- The clusters of the entries of a range, as they are deferred.
-use Rattle.std.specs.Prelude.{◌≡◌, ◌≢◌, ◌≤◌, ◌+◌, ◌-◌, ◌*◌, ℕ, Bool, true, false, cond, List, [], ◌∷◌}
+use Rattle.std.specs.Prelude.{◌≡◌, ◌≢◌, ◌≤◌, ◌+◌, ◌-◌, ℕ, Bool, true, false, cond, List, [], ◌∷◌}
 use Rattle.std.specs.Prelude.{length, slice_set, refl}
 use Rattle.std.proofs.Common.{sym, ◌∙◌, subst, arith, length-set}
 use Rattle.std.proofs.lemmas.List.{get_or-set_other}
@@ -9,20 +9,13 @@ use Rattle.cluster_space.specs.declared.state.State.TheVariants.{Used, Deferred}
 use Rattle.cluster_space.specs.States.{IsIn}
 use Rattle.table_records.specs.Keys.{pair_cmp}
 use Rattle.table_records.specs.declared.records.Extent.{Extent}
-use Rattle.volume_inside.specs.Layout.{half_bytes, journal_at, first_data_cluster, data_clusters, AreData}
+use Rattle.volume_inside.specs.Layout.{first_data_cluster, data_clusters, AreData}
 use Rattle.volume_inside.specs.Typed.{Typed, FileBlock}
-use Rattle.volume_inside.specs.Named.{named, clusters_of, extent_clusters}
+use Rattle.volume_inside.specs.Named.{clusters_of, extent_clusters}
 use Rattle.volume_inside.specs.Lists.{IsOut, IsOnce}
 use Rattle.volume_inside.proofs.Spaces.{named_used}
 use Rattle.volume_inside.proofs.Naming.{Marks, all_of, gone_of, gone_out, IsParted, AreOut, parted_apart, extents_parted}
 use Rattle.volume_tables.specs.Clusters.{HasState, AreHeld, each_deferred}
-use Rattle.vdisk.specs.Steps.{Keeps, keeps_start}
-use Rattle.vdisk.specs.declared.disk.Disk.{Ghosts}
-use Rattle.volume_inside.specs.Ranges.{IsApart}
-use Rattle.volume_inside.specs.Shows.{Shows}
-use Rattle.volume_tables.specs.Staging.{IsQuiet}
-use Rattle.volume_tables.specs.Tables.{disk_of, area_of, Leaves}
-use Rattle.volume_tables.specs.declared.tables.Tables.{Tables}
 use Rattle.volume_tables.specs.Dropped.{AreUsed, AreUsedOnce}
 use Rattle.volume_tables.proofs.Held.{held_deferred_at, held_parted}
 use Rattle.volume_tables.proofs.Leaving.{IsNoFreer, set_no_freer, deferred_is_not_free}

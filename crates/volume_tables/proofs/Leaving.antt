@@ -6,12 +6,11 @@ use Rattle.std.proofs.lemmas.Bool.{cases_eq}
 use Rattle.std.proofs.lemmas.List.{get_or-set_same, get_or-set_other}
 use Rattle.std.specs.Ordering.{eq_by_cmp}
 use Rattle.std.specs.FinMap.{find}
-use Rattle.vdisk.specs.Steps.{Keeps, keeps_then, keeps_start}
+use Rattle.vdisk.specs.Steps.{Keeps, keeps_start}
 use Rattle.vdisk.specs.declared.disk.Disk.{Ghosts}
 use Rattle.cluster_space.specs.declared.state.State.{State}
 use Rattle.cluster_space.specs.declared.state.State.TheVariants.{Free, Used, Deferred}
 use Rattle.cluster_space.specs.States.{IsIn}
-use Rattle.meta_log.specs.Meta.{meta_of}
 use Rattle.meta_log.specs.declared.log.MetaLog.{MetaLog}
 use Rattle.plain_volume.specs.declared.call.Fault.{Fault}
 use Rattle.table_records.specs.Keys.{pair_cmp}
@@ -23,7 +22,7 @@ use Rattle.volume_inside.specs.Ranges.{IsApart}
 use Rattle.volume_inside.specs.Named.{named, clusters_of, extent_clusters}
 use Rattle.volume_inside.specs.Bases.{base_clusters}
 use Rattle.volume_inside.specs.Lists.{IsOut}
-use Rattle.volume_inside.specs.Shows.{Area, Shows, Kept}
+use Rattle.volume_inside.specs.Shows.{Shows}
 use Rattle.volume_inside.specs.Tails.{AreTailsFree}
 use Rattle.volume_inside.proofs.Spaces.{named_used, found_in}
 use Rattle.volume_inside.proofs.Naming.{IsPutIn, put_stood, put_gone}

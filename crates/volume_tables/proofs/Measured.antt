@@ -1,13 +1,13 @@
 -- How many pairs a well-formed map has, and how many bytes a checkpoint of it, told by its tables.
-use Rattle.std.specs.Prelude.{◌≡◌, ◌+◌, ℕ, true, List, length}
+use Rattle.std.specs.Prelude.{◌≡◌, ◌+◌, ℕ, true, length}
 use Rattle.std.specs.Prelude.{refl}
-use Rattle.std.proofs.Common.{arith, eqb-true}
+use Rattle.std.proofs.Common.{arith}
 use Rattle.byte_map.specs.Words.{Map}
 use Rattle.meta_log.specs.Log.{checkpoint_length}
 use Rattle.table_records.specs.Codecs.{typed}
 use Rattle.table_records.specs.KeySizes.{has_size}
 use Rattle.table_records.specs.Tables.{volume_codec, name_codec, file_codec, extent_codec, settings_codec, result_codec}
-use Rattle.table_records.specs.Tables.{shapes, shape_of}
+use Rattle.table_records.specs.Tables.{shape_of}
 use Rattle.table_records.proofs.Belongs.{volume_is_table, name_is_table, file_is_table, extent_is_table}
 use Rattle.table_records.proofs.Belongs.{settings_are_table, result_is_table}
 use Rattle.volume_inside.specs.ChunkTables.{chunk_tables_of, sum_of}

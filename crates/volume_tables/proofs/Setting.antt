@@ -1,24 +1,15 @@
 -- What setters do and leave.
-use Rattle.std.specs.Prelude.{◌≡◌, ◌≢◌, ◌≤◌, ◌+◌, ◌*◌, ℕ, List, length, T, Option, Some, None, IsSome, IsOk, Result}
+use Rattle.std.specs.Prelude.{◌≡◌, ◌≢◌, ◌≤◌, ◌+◌, ℕ, List, length, T, Option, Some, None, IsSome, IsOk, Result}
 use Rattle.std.specs.Prelude.{OnOk, OnErr, is_some, true, refl}
 use Rattle.std.proofs.Common.{sym, ◌∙◌, ap, subst, inl, inr, arith}
 use Rattle.std.specs.Option.{option_map}
 use Rattle.std.proofs.lemmas.Result.{on_ok_weaker, on_err_weaker}
 use Rattle.std.specs.FinMap.Entries.{find, put, is_sorted}
-use Rattle.vdisk.specs.Steps.{Keeps, keeps_start}
 use Rattle.byte_map.specs.Words.{Map, bytes_cmp}
-use Rattle.cluster_space.specs.declared.state.State.{State}
-use Rattle.cluster_space.specs.declared.state.State.TheVariants.{Free}
-use Rattle.cluster_space.specs.States.{IsIn}
 use Rattle.plain_volume.specs.declared.call.Fault.{Fault}
 use Rattle.table_records.specs.Codecs.{Codec, typed}
 use Rattle.table_records.specs.Changes.{IsPut}
 use Rattle.table_records.specs.Laws.{find_typed}
-use Rattle.volume_inside.specs.Layout.{half_bytes, journal_at, first_data_cluster}
-use Rattle.volume_inside.specs.Ranges.{IsApart}
-use Rattle.volume_inside.specs.Named.{named, clusters_of}
-use Rattle.volume_inside.specs.Lists.{IsOut}
-use Rattle.volume_inside.specs.Shows.{Shows}
 use Rattle.volume_inside.specs.Typed.{Typed, typed_of}
 use Rattle.meta_log.specs.Log.{checkpoint_length}
 use Rattle.volume_tables.specs.Spelled.{is_pair_of, is_well_formed}
@@ -36,7 +27,7 @@ use Rattle.volume_tables.proofs.Sizes.{volume_key}
 use Rattle.volume_tables.proofs.Kept.{put_contents, dropped_contents, put_spelled}
 use Rattle.volume_tables.specs.Log.{log_now, log_staged}
 use Rattle.volume_tables.specs.Staging.{IsQuiet, IsStagedPut, IsStagedDrop}
-use Rattle.volume_tables.specs.Tables.{disk_of, area_of, tables_now, with_ends, Leaves, IsLogSet, new_bytes}
+use Rattle.volume_tables.specs.Tables.{disk_of, tables_now, with_ends, IsLogSet, new_bytes}
 use Rattle.vdisk.specs.declared.disk.Disk.{Ghosts}
 use Rattle.meta_log.specs.declared.log.MetaLog.{MetaLog}
 use Rattle.volume_tables.specs.declared.tables.Tables.{Tables}

@@ -4,7 +4,7 @@ use Rattle.std.proofs.Common.{sym, subst}
 use Rattle.std.specs.FinMap.{find}
 use Rattle.table_records.specs.Keys.{pair_cmp}
 use Rattle.table_records.specs.declared.chunk_records.Container.{Container}
-use Rattle.volume_inside.specs.ChunkTables.{ChunkTables, PageKey}
+use Rattle.volume_inside.specs.ChunkTables.{PageKey}
 use Rattle.volume_inside.specs.Named.{named}
 use Rattle.volume_inside.specs.Pages.{page_length}
 use Rattle.volume_inside.specs.Ranges.{IsApart}

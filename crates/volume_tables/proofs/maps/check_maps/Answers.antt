@@ -1,4 +1,4 @@
-use Rattle.std.proofs.Common.{◌≡◌, rules}
+use Rattle.std.proofs.Common.{rules}
 use Rattle.std.specs.Prelude.{Some, IsErrOf}
 use Rattle.row_reading.specs.declared.fault.BaseFault.TheVariants.{Broken}
 use Rattle.volume_inside.specs.Bases.{bases_of}

@@ -1,9 +1,8 @@
-use Rattle.std.proofs.Common.{◌≡◌, ◌∙◌, sym, ap, refl}
-use Rattle.std.specs.Prelude.{IsOk, IfOk, Ok, Err}
+use Rattle.std.proofs.Common.{◌∙◌}
+use Rattle.std.specs.Prelude.{Ok}
 use Rattle.meta_log.specs.Opened.{IsOnlyRead}
 use Rattle.row_reading.proofs.Readable.{readable}
 use Rattle.volume_inside.specs.InsideOf.{InsideOf}
-use Rattle.volume_inside.specs.ChunkRules.{MapsHold}
 use Rattle.volume_inside.specs.Rules.{next_id_of}
 use Rattle.volume_inside.specs.Shows.{Kept}
 use Rattle.volume_inside.specs.declared.mount_fault.MountFault.{MountFault}

@@ -26,7 +26,7 @@ use Rattle.volume_tables.proofs.Puts.{cluster_put}
 use Rattle.volume_tables.proofs.Sizes.{cluster_key}
 use Rattle.volume_tables.proofs.Held.{held_page}
 use Rattle.volume_tables.proofs.Leaving.{quiet_leaves, staged_leaves, used_no_freer, IsNoFreer}
-use Rattle.volume_tables.proofs.Setting.{as_put, entry_set, entry_contents, entry_held, entry_few, entry_now}
+use Rattle.volume_tables.proofs.Setting.{as_put, entry_set, entry_contents, entry_few, entry_now}
 use Rattle.volume_tables.proofs.Tailed.{pages_of_tables}
 use Rattle.volume_tables.proofs.Counts.{entry_named}
 use Rattle.volume_tables.proofs.tables.Tables.set_cluster.Goals as goal
