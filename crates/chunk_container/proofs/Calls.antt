@@ -96,16 +96,16 @@ module _ {D : Type 0} {d : Ghosts D} (takes : Type 0) (change : Typed → Typed)
     sound_as : (q : Typed) → tables_now p ≡ q → RulesHold (clusters_in m) q → clusters_of q ≡ clusters_of (tables_now m)
         → IsSound p
     sound_as q is holds named_same =
-      let rules_p : RulesHold (clusters_in p) (tables_now p) =
-      subst (λ (x : ℕ × Typed). RulesHold x.0 x.1) (λ i. (sym put.leaves.clusters i, sym is i)) holds in record {
-      rules = rules_p;
-      maps = rules_have_maps p rules_p;
-      counted = λ runs.
-          let named : clusters_of (tables_now p) ≡ clusters_of (tables_now m) = ap (λ (x : Typed). clusters_of x) is
-          ∙ named_same in
-          (λ i. free_in (put.states i) + deferred_in (put.states i) + length (named i))
-          ∙ room.sound.counted (sym put.running ∙ runs) ∙ ap (λ (k : ℕ). data_clusters k) (sym put.leaves.clusters);
-    }
+        let rules_p : RulesHold (clusters_in p) (tables_now p) =
+        subst (λ (x : ℕ × Typed). RulesHold x.0 x.1) (λ i. (sym put.leaves.clusters i, sym is i)) holds in record {
+          rules = rules_p;
+          maps = rules_have_maps p rules_p;
+          counted = λ runs.
+              let named : clusters_of (tables_now p) ≡ clusters_of (tables_now m) = ap (λ (x : Typed). clusters_of x) is
+              ∙ named_same in
+              (λ i. free_in (put.states i) + deferred_in (put.states i) + length (named i))
+              ∙ room.sound.counted (sym put.running ∙ runs) ∙ ap (λ (k : ℕ). data_clusters k) (sym put.leaves.clusters);
+        }
 
     rules_then : RulesHold (clusters_in m) (change (tables_now m))
     rules_then = subst (λ (x : ℕ × Typed). RulesHold x.0 (change x.1))
