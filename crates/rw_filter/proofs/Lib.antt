@@ -3,3 +3,4 @@ mod Placed
 mod OwnRead
 mod Losses
 mod HoleCells
+mod BaseDropped

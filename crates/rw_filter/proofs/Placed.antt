@@ -1,6 +1,6 @@
 -- Bytes that are put in the place of a part of others.
 use Rattle.std.specs.Prelude.{◌≡◌, ◌≤◌, ◌<◌, ◌+◌, ◌-◌, ℕ, List, ◌++◌, length, take, drop, get_or}
-use Rattle.std.proofs.Common.{sym, ◌∙◌, ap, arith, length-drop, length-append}
+use Rattle.std.proofs.Common.{◌∙◌, ap, arith, length-drop, length-append}
 use Rattle.std.proofs.lemmas.List.{get_or-take, get_or-drop, get_or_append_left, get_or-append_right, length-take-le}
 use borrow.Rule.Slice.PartMut.{post_of, put_mid}
 

@@ -43,3 +43,11 @@ pub record IsFirstHole (t : Typed) (i : Inside) (id : ℕ) (file : FileRecord) (
   pub within : q < at + n
   pub lost : cell i id file q ≡ Lost
   pub before : (p : ℕ) → at ≤ p → p < q → is_own t id p ≡ false → cell i id file p ≡ Lost → ⊥
+
+-- the same file, of which no cell comes from a base
+abbrev pub without_base : FileRecord → FileRecord
+without_base file = record { length = file.length; map_row = 0; covers = 0 }
+
+-- the bytes of a file's record, as a call stages it
+abbrev pub file_record_bytes : ℕ
+file_record_bytes = 38

@@ -8,9 +8,17 @@ ghost use Rattle.plain_volume.specs.Volume.{bytes_of, lost_where, is_within};
 ghost use Rattle.volume_inside.specs.Rules.{RulesHold};
 ghost use Rattle.volume_inside.specs.Typed.{Typed};
 ghost use Rattle.volume_inside.specs.View.{file_cells};
+ghost use Rattle.volume_inside.specs.Changes.{with_file};
+ghost use Rattle.volume_tables.specs.declared.room.TheConstants.{MOST_RECORDS};
 ghost use Rattle.volume_tables.specs.Reads.{ReadsOnly};
-ghost use Rattle.volume_tables.specs.Tables.{tables_now, inside_now, disk_of, clusters_in, IsTables};
+ghost use Rattle.volume_tables.specs.Sound.{IsSound};
+ghost use Rattle.volume_tables.specs.Stages.{Stages};
+ghost use Rattle.volume_tables.specs.Tables.{tables_now, inside_now, view_now, staged_of, disk_of, clusters_in, IsTables};
+ghost use Rattle.table_records.specs.declared.records.FileRecord.{FileRecord as Record};
+ghost use Rattle.volume_files.specs.Own.{IsOwn};
+ghost use Rattle.rw_filter.specs.Own.{without_base, file_record_bytes};
 
+use crate::dropping::drop_base;
 use crate::reading::read_file;
 use chunk_container::Store;
 use plain_volume::Fault;
@@ -76,5 +84,21 @@ impl<D: Disk> Filter<D> {
             Rose (disk_of (filtered self.old)).faults (disk_of (filtered self.new)).faults)) }
     {
         read_file(self.store.tables_mut(), file, at, out)
+    }
+
+    /// Drops the base of a file of which each covered block has an extent. No file sees it. Room for the file's record
+    /// was ensured. It takes no memory.
+    pub fn drop_base(&mut self, file: u64)
+        requires sound { IsSound (filtered self.old) }
+        requires there { IsSome (find nat_cmp file (tables_now (filtered self.old)).files) }
+        requires recalled { (p : ℕ) → IsOwn (tables_now (filtered self.old)) file p }
+        requires room { staged_of (filtered self.old) + file_record_bytes ≤ MOST_RECORDS }
+        ensures dropped { (was : Record) → find nat_cmp file (tables_now (filtered self.old)).files ≡ Some was →
+            tables_now (filtered self.new) ≡ with_file file (without_base was) (tables_now (filtered self.old)) }
+        ensures view { view_now (filtered self.new) ≡ view_now (filtered self.old) }
+        ensures sound { IsSound (filtered self.new) }
+        ensures stages { Stages file_record_bytes (filtered self.old) (filtered self.new) }
+    {
+        drop_base(self.store.tables_mut(), file)
     }
 }

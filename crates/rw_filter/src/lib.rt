@@ -2,11 +2,13 @@
 //! stream maps, else they are zero.
 #![tactic(auto)]
 
+mod dropping;
 mod filter;
 mod holes;
 mod own_cells;
 mod reading;
 mod runs;
 
+pub use dropping::drop_base;
 pub use filter::Filter;
 pub use reading::read_file;

@@ -1,10 +1,9 @@
-use Rattle.std.proofs.Common.{◌≡◌, ◌≤◌, ℕ, List, Result, Err, Some, length, take, drop, ◌∙◌, ap, sym, subst, arith}
+use Rattle.std.proofs.Common.{◌≡◌, ℕ, Result, Err, length, take, drop, ◌∙◌, ap, subst, arith}
 use Rattle.std.proofs.lemmas.List.{length-take-le}
 use Rattle.std.proofs.lemmas.Map.Lookups.{exact_unsigned}
 use Rattle.std.specs.Ordering.{nat_cmp}
 use Rattle.plain_volume.specs.declared.call.Fault.{Fault}
 use Rattle.plain_volume.specs.declared.call.Fault.TheVariants.{Damaged}
-use Rattle.row_reading.specs.declared.fault.CellFault.TheVariants.{Lost}
 use Rattle.row_reading.proofs.Readable.{readable}
 use Rattle.volume_inside.specs.Entries.{each_found}
 use Rattle.volume_inside.specs.Rules.{next_id_of, FileHolds}

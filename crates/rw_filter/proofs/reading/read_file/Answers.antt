@@ -1,4 +1,4 @@
-use Rattle.std.proofs.Common.{rules, ◌≡◌, ◌≤◌, ◌+◌, ℕ, List, Result, Ok, Err, Some, OnOk, length, ◌∙◌, ap, sym, arith}
+use Rattle.std.proofs.Common.{rules, ◌≡◌, ◌+◌, ℕ, List, Result, Ok, Err, Some, OnOk, length, ◌∙◌, ap, sym, arith}
 use Rattle.vdisk.specs.declared.disk.Disk.{Ghosts}
 use Rattle.table_records.specs.declared.records.FileRecord.{FileRecord}
 use Rattle.volume_inside.specs.Inside.{Inside}
@@ -9,7 +9,7 @@ use Rattle.volume_tables.specs.declared.tables.Tables.{Tables}
 use Rattle.rw_filter.specs.Own.{is_own, HasOwn, KeepsOthers}
 use Rattle.std.specs.Ordering.{nat_cmp}
 use Rattle.std.specs.FinMap.{find}
-use Rattle.volume_tables.specs.Tables.{tables_now, inside_now, disk_of, clusters_in}
+use Rattle.volume_tables.specs.Tables.{tables_now, inside_now, disk_of}
 use Rattle.volume_tables.proofs.Rereads.{reads_then, same_inside}
 use Rattle.rw_filter.proofs.OwnRead.{cells_length}
 use Rattle.rw_filter.proofs.HoleCells.{first_lost_there, bytes_read, none_lost_there}
