@@ -36,6 +36,7 @@ fn take_journal(
         b"data" => journal::data(session, asked, answers),
         b"volume" => stored::make(session),
         b"row" => stored::row(session, asked, answers),
+        b"append" => stored::append(session, asked, answers),
         _ => Err(RowFault::NoQuestion),
     }
 }
