@@ -21,9 +21,10 @@ use Rattle.table_records.specs.declared.chunk_records.Place.{Place}
 use Rattle.table_records.specs.declared.chunk_records.Container.{Container}
 use Rattle.volume_inside.specs.Bases.{Bases, bases_of}
 use Rattle.volume_inside.specs.ChunkChanges.{Grows}
-use Rattle.volume_inside.specs.Chunks.{chunk}
 use Rattle.volume_inside.specs.ChunkTables.{CopyKey}
-use Rattle.volume_inside.specs.Inside.{Inside, inside_at}
+use Rattle.volume_inside.specs.ChunkRules.{BaseHolds, MapsHold}
+use Rattle.volume_inside.specs.Entries.{Each}
+use Rattle.volume_inside.specs.Inside.{Inside, inside_at, blocks_of}
 use Rattle.volume_inside.specs.Layout.{data_clusters, AreData}
 use Rattle.volume_inside.specs.Named.{clusters_of}
 use Rattle.volume_inside.specs.Pages.{used_of, used_or_none, content}
@@ -43,7 +44,7 @@ use Rattle.volume_tables.specs.declared.tables.Tables.{Tables}
 use Rattle.volume_tables.proofs.Answers.{ok_or_err}
 use Rattle.volume_tables.proofs.Endured.{endures_leaves}
 use Rattle.volume_tables.proofs.Stagings.{on_ok_any}
-use Rattle.volume_tables.proofs.Mapped.{rules_have_maps}
+use Rattle.volume_tables.proofs.Mapped.{maps_then}
 use Rattle.chunk_container.specs.declared.containers.Target.{Target}
 use Rattle.chunk_container.specs.Appending.{append_needs, append_bytes, more_pages, longer, with_longer, IsTargetIn, IsAppended, AreBytesThere, IsAppendCall}
 use Rattle.chunk_container.specs.Bases.{bases_now}
@@ -52,7 +53,7 @@ use Rattle.chunk_container.proofs.Appended.{rules_appended}
 use Rattle.chunk_container.proofs.AppendBytes.{appended_bytes}
 use Rattle.chunk_container.proofs.Finds.{found_put, found_other}
 use Rattle.chunk_container.proofs.PageStates.{pages_sorted, held_now}
-use Rattle.chunk_container.proofs.RowViews.{view_rows}
+use Rattle.chunk_container.proofs.RowViews.{view_by_bases}
 
 -- ---- what an append leaves of the tables
 
@@ -153,13 +154,6 @@ module _ {D : Type 0} {d : Ghosts D} (target : Target) (kind count : ℕ) (t m :
       | inr same ↦ rules_by (tables_now m) same room.sound.rules
     ]
 
-    sound_then : LosesNone m p → IsSound p
-    sound_then loses = record {
-      rules = rules_then;
-      maps = rules_have_maps p rules_then;
-      counted = λ runs. loses runs ∙ room.sound.counted room.runs ∙ ap data_clusters (sym leaves.clusters);
-    }
-
     -- ---- what is seen
 
     bases_appended : IsAppended target kind count (tables_now m) (tables_now p)
@@ -173,6 +167,24 @@ module _ {D : Type 0} {d : Ghosts D} (target : Target) (kind count : ℕ) (t m :
         (same_rows target kind count (tables_now m) (tables_now p) appended)
         (same_places target kind count (tables_now m) (tables_now p) appended) read.places
 
+    maps_p : MapsHold (inside_now m) → MapsHold (inside_now p)
+    maps_p maps = elim (ok_or_err r ok err) [
+      | inl appended ↦
+          subst (λ (x : List (ℕ × FileRecord) × Bases). Each (BaseHolds x.1) x.0)
+          (λ i. (
+            sym (same_files target kind count (tables_now m) (tables_now p) appended) i,
+            sym (bases_appended appended ∙ ap (λ (j : Inside). j.bases) frame) i,
+          )) maps
+      | inr same ↦ subst MapsHold (sym (ap (λ (q : Typed). inside_at q (disk_of p).image) same ∙ frame)) maps
+    ]
+
+    sound_then : LosesNone m p → IsSound p
+    sound_then loses = record {
+      rules = rules_then;
+      maps = maps_then m p leaves.tells maps_p room.sound.maps;
+      counted = λ runs. loses runs ∙ room.sound.counted room.runs ∙ ap data_clusters (sym leaves.clusters);
+    }
+
     bases_then : bases_now p ≡ bases_now t
     bases_then =
         elim (ok_or_err r ok err) as (λ w. bases_now p ≡ bases_of (tables_now m) (disk_of p).image) [
@@ -185,11 +197,11 @@ module _ {D : Type 0} {d : Ghosts D} (target : Target) (kind count : ℕ) (t m :
     view_then =
         elim (ok_or_err r ok err) as (λ w. view_now p ≡ view (inside_at (tables_now m) (disk_of p).image)) [
           | inl appended ↦
-              view_rows (clusters_in m) (tables_now m) (tables_now p) (disk_of p).image room.sound.rules
+              view_by_bases (inside_at (tables_now m) (disk_of p).image) (inside_now p)
               (same_names target kind count (tables_now m) (tables_now p) appended)
               (same_files target kind count (tables_now m) (tables_now p) appended)
-              (same_extents target kind count (tables_now m) (tables_now p) appended)
-              (λ id there. ap (λ (b : Bases). chunk b id) (bases_appended appended))
+              (λ i. blocks_of (same_extents target kind count (tables_now m) (tables_now p) appended i) (disk_of p).image)
+              (bases_appended appended)
           | inr same ↦ ap (λ (q : Typed). view (inside_at q (disk_of p).image)) same
         ]
         ∙ ap (λ (i : Inside). view i) (frame ∙ room.inside)

@@ -308,7 +308,6 @@ module _ (n kind count : ℕ) (target : Target) (t : Typed) (rules : RulesHold n
       names = rules.names;
       files = rules.files;
       map_rows = rules.map_rows;
-      bare = rules.bare;
       extents = rules.extents;
       chunks = chunks_then (next_id_of t) (omega arith)
           (λ new. absurd (let clash : true ≡ false = sym new ∙ made in cc));
@@ -340,7 +339,6 @@ module _ (n kind count : ℕ) (target : Target) (t : Typed) (rules : RulesHold n
             cover = h.cover;
           }) rules.files);
       map_rows = rules.map_rows;
-      bare = rules.bare;
       extents = rules.extents;
       chunks = subst (λ (next : ℕ). ChunksHold n next (record t.chunks {
         containers = put nat_cmp target.container (longer target kind count) t.chunks.containers;

@@ -1,5 +1,5 @@
 -- A call on rows: room is made, and then its records are put.
-use Rattle.std.specs.Prelude.{◌≡◌, ◌⊎◌, ◌≤◌, ◌<◌, ◌+◌, ◌-◌, ℕ, true, false, length, Option, Some, None, IsSome, IsOk, Result, Ok, Err, OnOk, OnErr, IfErr, IsErrOf, refl}
+use Rattle.std.specs.Prelude.{◌≡◌, ◌⊎◌, ◌≤◌, ◌<◌, ◌+◌, ◌-◌, ℕ, true, false, List, length, Option, Some, None, IsSome, IsTrue, IsOk, Result, Ok, Err, OnOk, OnErr, IfErr, IsErrOf, refl}
 use Rattle.std.proofs.Common.{◌∙◌, ap, sym, subst, inl, inr, arith, ⊎_elim}
 use Rattle.std.specs.Ordering.{nat_cmp}
 use Rattle.std.specs.FinMap.{find}
@@ -10,8 +10,9 @@ use Rattle.plain_volume.specs.declared.call.Fault.{Fault}
 use Rattle.plain_volume.specs.declared.call.Fault.TheVariants.{Failed, Memory, Worn, TableFull}
 use Rattle.volume_inside.specs.Bases.{bases_of}
 use Rattle.volume_inside.specs.Chunks.{chunk}
+use Rattle.volume_inside.specs.ChunkRules.{MapsHold}
 use Rattle.volume_inside.specs.Inside.{Inside, inside_at}
-use Rattle.volume_inside.specs.Layout.{data_clusters, half_bytes}
+use Rattle.volume_inside.specs.Layout.{data_clusters, half_bytes, AreData}
 use Rattle.volume_inside.specs.Named.{clusters_of}
 use Rattle.volume_inside.specs.Rules.{RulesHold}
 use Rattle.volume_inside.specs.Typed.{Typed}
@@ -23,15 +24,17 @@ use Rattle.volume_tables.specs.Rooms.{IsRoomMade}
 use Rattle.volume_tables.specs.Sound.{IsSound, IsSpared, Spares}
 use Rattle.volume_tables.specs.Setters.{IsSetIn}
 use Rattle.volume_tables.specs.Tables.{tables_now, view_now, states_of, checkpoint_of, disk_of}
-use Rattle.volume_tables.specs.Tables.{clusters_in, stopped, new_bytes}
+use Rattle.volume_tables.specs.Tables.{clusters_in, stopped, new_bytes, HasMaps}
 use Rattle.volume_tables.specs.Wants.{Needs, wanting, IsWanting}
 use Rattle.volume_tables.specs.declared.tables.Tables.{Tables}
 use Rattle.volume_tables.proofs.Answers.{ok_or_err}
 use Rattle.volume_tables.proofs.Endured.{endures_leaves}
 use Rattle.volume_tables.proofs.Stagings.{on_ok_any}
-use Rattle.volume_tables.proofs.Mapped.{rules_have_maps}
+use Rattle.volume_tables.proofs.Mapped.{maps_then}
+use Rattle.volume_inside.proofs.Journals.{journal_apart}
 use Rattle.chunk_container.specs.Bases.{bases_now}
 use Rattle.chunk_container.specs.Calls.{ArePut, IsRowCall}
+use Rattle.chunk_container.proofs.PageStates.{held_now}
 use Rattle.chunk_container.proofs.RowViews.{view_rows}
 
 -- a change of rows, copies or ids leaves the files
@@ -76,11 +79,12 @@ module _ {D : Type 0} {d : Ghosts D} (takes : Type 0) (change : Typed → Typed)
   call_refused fault room = record {
     ok = tt;
     err = room.now;
+    inside = tt;
     unchanged = room.inside;
     none = tt;
     refused = inl room.refused;
-    seen = λ chunks. ap (λ (i : Inside). view i) room.inside;
-    sound = room.sound;
+    seen = λ told chunks. ap (λ (i : Inside). view i) room.inside;
+    sound = λ maps. room.sound;
     endures = room.endures;
     stops = room.stops;
     halts = room.halts;
@@ -93,13 +97,28 @@ module _ {D : Type 0} {d : Ghosts D} (takes : Type 0) (change : Typed → Typed)
       (none : n.clusters ≡ 0) (rules : RulesHold (clusters_in t) (change (tables_now t)))
       (same : (q : Typed) → LeavesFiles q (change q))
       (p : Tables D d) (r : Result (Unit {0}) Fault) (put : ArePut takes change bytes m p r) where
-    sound_as : (q : Typed) → tables_now p ≡ q → RulesHold (clusters_in m) q → clusters_of q ≡ clusters_of (tables_now m)
-        → IsSound p
-    sound_as q is holds named_same =
+    -- the inside that the changed tables have stays over the room that was made
+    change_inside : inside_at (change (tables_now m)) (disk_of p).image ≡ inside_at (change (tables_now t)) (disk_of t).image
+    change_inside =
+        let files = same (tables_now t) in
+        let named_data : AreData (clusters_in t) (clusters_of (change (tables_now t))) =
+        subst (λ (cs : List ℕ). AreData (clusters_in t) cs) (sym files.clusters) (held_now t).0 in
+        (λ i. inside_at (change (room.now i)) (put.image i))
+        ∙ room.frame (change (tables_now t)) (journal_apart (clusters_in t) (change (tables_now t)) named_data)
+
+    told_m : IsTrue (disk_of p).tells → IsTrue (disk_of m).tells
+    told_m told = sym put.leaves.tells ∙ told
+
+    told_t : IsTrue (disk_of p).tells → IsTrue (disk_of t).tells
+    told_t told = sym room.tells ∙ told_m told
+
+    sound_as : (q : Typed) → tables_now p ≡ q → RulesHold (clusters_in m) q → HasMaps p
+        → clusters_of q ≡ clusters_of (tables_now m) → IsSound p
+    sound_as q is holds held_maps named_same =
         let rules_p : RulesHold (clusters_in p) (tables_now p) =
         subst (λ (x : ℕ × Typed). RulesHold x.0 x.1) (λ i. (sym put.leaves.clusters i, sym is i)) holds in record {
           rules = rules_p;
-          maps = rules_have_maps p rules_p;
+          maps = held_maps;
           counted = λ runs.
               let named : clusters_of (tables_now p) ≡ clusters_of (tables_now m) = ap (λ (x : Typed). clusters_of x) is
               ∙ named_same in
@@ -111,20 +130,24 @@ module _ {D : Type 0} {d : Ghosts D} (takes : Type 0) (change : Typed → Typed)
     rules_then = subst (λ (x : ℕ × Typed). RulesHold x.0 (change x.1))
         (λ i. (sym room.endures.clusters i, sym room.now i)) rules
 
-    sound_then : IsSound p
-    sound_then = elim (ok_or_err r put.ok put.err) [
-      | inl is ↦ sound_as (change (tables_now m)) is rules_then (let files = same (tables_now m) in files.clusters)
-      | inr is ↦ sound_as (tables_now m) is room.sound.rules refl
+    sound_then : (IsTrue (disk_of t).tells → MapsHold (inside_at (change (tables_now t)) (disk_of t).image)) → IsSound p
+    sound_then maps = elim (ok_or_err r put.ok put.err) [
+      | inl is ↦ sound_as (change (tables_now m)) is rules_then
+          (λ told. subst MapsHold (sym ((λ i. inside_at (is i) (disk_of p).image) ∙ change_inside)) (maps (told_t told)))
+          (let files = same (tables_now m) in files.clusters)
+      | inr is ↦ sound_as (tables_now m) is room.sound.rules
+          (maps_then m p put.leaves.tells (subst MapsHold (sym (λ i. inside_at (is i) (put.image i)))) room.sound.maps) refl
     ]
 
     -- where the chunks stay, so do the files
-    seen_then : ((id : ℕ) → IsSome (find nat_cmp id (tables_now t).chunks.rows)
+    seen_then : IsTrue (disk_of t).tells → ((id : ℕ) → IsSome (find nat_cmp id (tables_now t).chunks.rows)
         → chunk (bases_now p) id ≡ chunk (bases_now t) id) → view_now p ≡ view_now t
-    seen_then chunks = elim (ok_or_err r put.ok put.err) [
+    seen_then told chunks = elim (ok_or_err r put.ok put.err) [
       | inl is ↦
           let files = same (tables_now m) in
           (λ i. view (inside_at (is i) (put.image i)))
-          ∙ view_rows (clusters_in m) (tables_now m) (change (tables_now m)) (disk_of m).image room.sound.rules files.names
+          ∙ view_rows (clusters_in m) (tables_now m) (change (tables_now m)) (disk_of m).image room.sound.rules
+          (room.sound.maps (room.tells ∙ told)) files.names
           files.files files.extents
           (λ id there. sym (λ i. chunk (bases_of (is i) (put.image i)) id)
           ∙ chunks id (subst (λ (q : Typed). IsSome (find nat_cmp id q.chunks.rows)) room.now there)
@@ -179,6 +202,7 @@ module _ {D : Type 0} {d : Ghosts D} (takes : Type 0) (change : Typed → Typed)
     call_done = record {
       ok = on_ok_weaker r (λ is. is ∙ ap change room.now) put.ok;
       err = on_err_weaker r (λ is. is ∙ room.now) put.err;
+      inside = on_ok_weaker r (λ is. (λ i. inside_at (is i) (disk_of p).image) ∙ change_inside) put.ok;
       unchanged = on_err_weaker r (λ is. (λ i. inside_at (is i) (put.image i)) ∙ room.inside) put.err;
       none = on_ok_any r room.none;
       refused = refusal.0;

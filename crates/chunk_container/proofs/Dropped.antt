@@ -1,5 +1,5 @@
 -- Rows and copies that are dropped: the rules without them.
-use Rattle.std.specs.Prelude.{◌≡◌, ◌+◌, ◌==◌, ℕ, Bool, true, false, cond, not, List, [], ◌∷◌, length, Option, Some, None, IsSome, IsSomeAnd, refl}
+use Rattle.std.specs.Prelude.{◌≡◌, ◌+◌, ◌==◌, ℕ, Bool, true, false, cond, not, List, [], ◌∷◌, length, Option, Some, None, IsSome, IsSomeAnd, IsTrue, refl}
 use Rattle.std.proofs.Common.{◌∙◌, ap, sym, subst, arith, ne_eqb, eq-eqb}
 use Rattle.std.specs.declared.cmp.Ordering.{Ordering}
 use Rattle.std.specs.declared.cmp.Ordering.TheVariants.{Less, Equal, Greater}
@@ -12,27 +12,31 @@ use Rattle.vdisk.specs.declared.disk.Disk.{Ghosts}
 use Rattle.cluster_space.specs.States.{free_in, deferred_in}
 use Rattle.table_records.specs.Keys.{pair_cmp}
 use Rattle.table_records.specs.Orders.{pair_total}
+use Rattle.table_records.specs.declared.records.FileRecord.{FileRecord}
 use Rattle.table_records.specs.declared.chunk_records.Row.{Row}
 use Rattle.table_records.specs.declared.chunk_records.Place.{Place}
 use Rattle.table_records.specs.Changes.{is_in_range}
 use Rattle.volume_inside.specs.Changes.{keep_rows, keep_places}
-use Rattle.volume_inside.specs.ChunkRules.{RowHolds, IsTarget, RedirectHolds, PlaceOfHolds, PlaceHolds, FirstCopyHolds, ChunksHold}
+use Rattle.volume_inside.specs.ChunkRules.{IsMapRow, MapRowHolds, MapsHold, RowHolds, IsTarget, RedirectHolds, PlaceOfHolds, PlaceHolds, FirstCopyHolds, ChunksHold}
 use Rattle.volume_inside.specs.ChunkTables.{ChunkTables, CopyKey}
-use Rattle.volume_inside.specs.Entries.{each_weaker, each_where_key}
+use Rattle.volume_inside.specs.Bases.{bases_of}
+use Rattle.volume_inside.specs.Entries.{Each, each_found, each_weaker, each_where_key}
+use Rattle.volume_inside.specs.Inside.{inside_at}
+use Rattle.volume_inside.specs.Mapping.{HasEntries}
 use Rattle.volume_inside.specs.Layout.{data_clusters}
 use Rattle.volume_inside.specs.Named.{clusters_of}
-use Rattle.volume_inside.proofs.Lawfuls.{no_map_rows}
 use Rattle.volume_inside.specs.Rules.{next_id_of, RulesHold}
 use Rattle.volume_inside.specs.Typed.{Typed}
 use Rattle.volume_tables.specs.Setters.{IsDroppedIn}
 use Rattle.volume_tables.specs.Sound.{IsSound}
-use Rattle.volume_tables.specs.Tables.{tables_now, states_of, clusters_in, stopped}
+use Rattle.volume_tables.specs.Tables.{tables_now, states_of, disk_of, clusters_in, stopped, HasMaps}
 use Rattle.volume_tables.specs.declared.tables.Tables.{Tables}
-use Rattle.volume_tables.proofs.Mapped.{rules_have_maps}
 use Rattle.chunk_container.specs.Calls.{IsSoundWithout}
-use Rattle.chunk_container.specs.Rows.{without_copy, without_copies, without_row, IsUntargeted, AreOthersGone}
+use Rattle.chunk_container.specs.Bases.{IsOutOfMaps}
+use Rattle.chunk_container.specs.Rows.{without_copy, without_copies, without_row, IsUntargeted, IsUnmapped, AreOthersGone}
 use Rattle.chunk_container.proofs.Finds.{each_both, each_kept, found_kept, found_dropped}
 use Rattle.chunk_container.proofs.Ranges.{id_range, copy_range}
+use Rattle.chunk_container.proofs.MapsLeft.{IsMap, maps_stayed, maps_kept, same_like}
 use Rattle.chunk_container.proofs.RowRules.{exact_keys}
 
 -- ---- keys of other rows
@@ -63,7 +67,6 @@ rules_without_second n t k rules second = record {
   names = rules.names;
   files = rules.files;
   map_rows = rules.map_rows;
-  bare = rules.bare;
   extents = rules.extents;
   chunks = record {
     rows = rules.chunks.rows;
@@ -104,12 +107,12 @@ module _ (n next : ℕ) (t : ChunkTables) (h : ChunksHold n next t) (id : ℕ) (
   abbrev places_left : List (CopyKey × Place)
   places_left = where_key pair_cmp (λ k. not (k.0 == id)) t.places
 
-  row_left : (P : Row → Type 0) (x : ℕ) → (x ≡ id → ⊥) → IsSomeAnd (find nat_cmp x t.rows) P
+  pub row_left : (P : Row → Type 0) (x : ℕ) → (x ≡ id → ⊥) → IsSomeAnd (find nat_cmp x t.rows) P
       → IsSomeAnd (find nat_cmp x rows_left) P
   row_left P x differ holds = subst (λ (o : Option Row). IsSomeAnd o P)
       (sym (found_kept nat_cmp exact_unsigned (λ y. not (y == id)) x t.rows (other_test id x differ))) holds
 
-  place_left : (x copy : ℕ) → (x ≡ id → ⊥) → find pair_cmp (x, copy) places_left ≡ find pair_cmp (x, copy) t.places
+  pub place_left : (x copy : ℕ) → (x ≡ id → ⊥) → find pair_cmp (x, copy) places_left ≡ find pair_cmp (x, copy) t.places
   place_left x copy differ =
       found_kept pair_cmp exact_keys (λ k. not (k.0 == id)) (x, copy) t.places (other_test id x differ)
 
@@ -139,19 +142,78 @@ module _ (n next : ℕ) (t : ChunkTables) (h : ChunksHold n next t) (id : ℕ) (
     };
   }
 
--- WITHOUT A ROW that no redirect names, and without its copies, the rules hold
+-- a file meets the rule on its map, which another row is
+abbrev HasOtherMap : Typed → ℕ → ℕ → FileRecord → Type 0
+HasOtherMap t id x f = MapRowHolds t.chunks.rows x f × (f.map_row ≡ id → ⊥)
+
+-- WITHOUT A ROW that no redirect and no file names, and without its copies, the rules hold
 pub rules_without_row : (n : ℕ) (t : Typed) (id : ℕ) → RulesHold n t → IsUntargeted t.chunks.rows id
-    → RulesHold n (without_copies id (without_row id t))
-rules_without_row n t id rules untargeted = record {
+    → IsUnmapped t.files id → RulesHold n (without_copies id (without_row id t))
+rules_without_row n t id rules untargeted unmapped = record {
   records = rules.records;
   names = rules.names;
   files = rules.files;
-  map_rows = no_map_rows (next_id_of t) (without_row id t).chunks.rows t.files rules.files rules.bare;
-  bare = rules.bare;
+  map_rows = each_weaker (HasOtherMap t id) (MapRowHolds (without_row id t).chunks.rows) t.files
+      (λ x f both some. row_left n (next_id_of t) t.chunks rules.chunks id untargeted IsMapRow f.map_row both.1
+      (both.0 some))
+      (each_both (MapRowHolds t.chunks.rows) (λ x f. f.map_row ≡ id → ⊥) (HasOtherMap t id) t.files (λ x f one two. (one, two))
+      rules.map_rows unmapped);
   extents = rules.extents;
   chunks = chunks_without n (next_id_of t) t.chunks rules.chunks id untargeted;
   clusters = rules.clusters;
 }
+
+-- ---- the maps
+
+-- a row of a map has no second copy, so that it keeps its copies without one
+pub maps_without_second : (n : ℕ) (t : Typed) (k : CopyKey) (image : List ℕ) → RulesHold n t → k.1 ≡ 1
+    → MapsHold (inside_at t image) → MapsHold (inside_at (without_copy k t) image)
+maps_without_second n t k image rules second =
+    maps_stayed n t (without_copy k t) image rules refl refl refl (λ id. same_like t (without_copy k t) id refl)
+    (λ m is. record { row = refl; copies = λ copy. by m copy is (eq_by_cmp pair_cmp k (m, copy)) refl })
+  where
+    test : CopyKey → Bool
+    test q = not (eq_by_cmp pair_cmp k q)
+
+    none : (m : ℕ) → IsMap t m → (o : Option Place) → find pair_cmp (m, 1) t.chunks.places ≡ o
+        → find pair_cmp (m, 1) t.chunks.places ≡ None
+    none m is None at = at
+    none m is (Some p) at =
+        let holds = each_found pair_cmp exact_keys (PlaceHolds t.chunks.rows t.chunks.containers) (m, 1) p t.chunks.places
+        at rules.chunks.places.places in
+        absurd (kinds (find nat_cmp m t.chunks.rows) is holds)
+      where
+        kinds : (o : Option Row) → IsSomeAnd o IsMapRow → IsSomeAnd o (PlaceOfHolds t.chunks.containers 1 p) → ⊥
+        kinds None map place = map
+        kinds (Some row) map place = (let other = place.if_second refl in omega (arith, map, other))
+
+    by : (m copy : ℕ) → IsMap t m → (b : Bool) → eq_by_cmp pair_cmp k (m, copy) ≡ b
+        → find pair_cmp (m, copy) (where_key pair_cmp test t.chunks.places) ≡ find pair_cmp (m, copy) t.chunks.places
+    by m copy is true tie =
+        let same : k ≡ (m, copy) = tied_key k (m, copy) tie in
+        let one : copy ≡ 1 = sym (ap (λ (q : CopyKey). q.1) same) ∙ second in
+        found_dropped pair_cmp exact_keys test (m, copy) t.chunks.places (ap not tie)
+        ∙ sym (ap (λ (c : ℕ). find pair_cmp (m, c) t.chunks.places) one
+        ∙ none m is (find pair_cmp (m, 1) t.chunks.places) refl)
+    by m copy is false tie = found_kept pair_cmp exact_keys test (m, copy) t.chunks.places (ap not tie)
+
+-- without a row that no file and no map names
+pub maps_without_row : (n : ℕ) (t : Typed) (id : ℕ) (image : List ℕ) (rules : RulesHold n t)
+    → IsUntargeted t.chunks.rows id → IsUnmapped t.files id
+    → Each (HasEntries (bases_of t image) (λ e. e.id ≡ id → ⊥)) t.files
+    → MapsHold (inside_at t image) → MapsHold (inside_at (without_copies id (without_row id t)) image)
+maps_without_row n t id image rules untargeted unmapped out =
+    let u : Typed = without_copies id (without_row id t) in
+    let same : (x : ℕ) → (x ≡ id → ⊥) → find nat_cmp x u.chunks.rows ≡ find nat_cmp x t.chunks.rows = λ x differ.
+    found_kept nat_cmp exact_unsigned (λ y. not (y == id)) x t.chunks.rows (other_test id x differ) in
+    maps_kept n t u image rules refl refl refl (λ x. x ≡ id → ⊥) (λ x differ. same_like t u x (same x differ))
+    (λ m differ is. record {
+      row = same m differ;
+      copies = λ copy. place_left n (next_id_of t) t.chunks rules.chunks id untargeted m copy differ;
+    })
+    (each_both (λ x f. f.map_row ≡ id → ⊥) (HasEntries (bases_of t image) (λ e. e.id ≡ id → ⊥))
+    (λ x f. (f.map_row ≡ id → ⊥) × HasEntries (bases_of t image) (λ e. e.id ≡ id → ⊥) x f) t.files
+    (λ x f one two. (one, two)) unmapped out)
 
 -- ---- copies that are gone
 
@@ -269,17 +331,27 @@ module _ {D : Type 0} {d : Ghosts D} (change : Typed → Typed) (bytes : ℕ) (o
   rules_left f rules = subst (λ (x : ℕ × Typed). RulesHold x.0 (f x.1))
       (λ i. (sym drop.leaves.clusters i, sym drop.tables i)) rules
 
-  pub sound_left : IsSound old → RulesHold (clusters_in old) (change (tables_now old)) → IsSound new
-  sound_left sound rules = let left = rules_left (λ q. q) rules in record {
-    rules = left;
-    maps = rules_have_maps new left;
+  -- where the disk tells still what it holds
+  pub maps_told : (f : Typed → Typed)
+      → (IsTrue (disk_of old).tells → MapsHold (inside_at (f (change (tables_now old))) (disk_of old).image))
+      → IsTrue (disk_of new).tells → MapsHold (inside_at (f (tables_now new)) (disk_of new).image)
+  maps_told f maps told =
+      subst MapsHold (sym (λ i. inside_at (f (drop.tables i)) (drop.image i))) (maps (sym drop.leaves.tells ∙ told))
+
+  pub sound_left : IsSound old → RulesHold (clusters_in old) (change (tables_now old))
+      → (IsTrue (disk_of old).tells → MapsHold (inside_at (change (tables_now old)) (disk_of old).image)) → IsSound new
+  sound_left sound rules maps = record {
+    rules = rules_left (λ q. q) rules;
+    maps = maps_told (λ q. q) maps;
     counted = counted_left sound.counted;
   }
 
   pub without_left : (id : ℕ) → IsSound old → RulesHold (clusters_in old) (without_copies id (change (tables_now old)))
-      → IsSoundWithout id new
-  without_left id sound rules = record {
+      → (IsTrue (disk_of old).tells
+      → MapsHold (inside_at (without_copies id (change (tables_now old))) (disk_of old).image)) → IsSoundWithout id new
+  without_left id sound rules maps = record {
     rules = rules_left (without_copies id) rules;
+    maps = maps_told (without_copies id) maps;
     counted = counted_left sound.counted;
   }
 
@@ -290,6 +362,8 @@ module _ {D : Type 0} {d : Ghosts D} (k : CopyKey) (bytes : ℕ) (old new : Tabl
   pub second_left : IsSound old → k.1 ≡ 1 → IsSound new
   second_left sound second = sound_left (without_copy k) bytes old new drop (λ q. refl) sound
       (rules_without_second (clusters_in old) (tables_now old) k sound.rules (λ first. omega (arith, first, second)))
+      (λ told. maps_without_second (clusters_in old) (tables_now old) k (disk_of old).image sound.rules second
+      (sound.maps told))
 
   rules_gone : IsSoundWithout k.0 old → RulesHold (clusters_in old) (without_copies k.0 (without_copy k (tables_now old)))
   rules_gone sound =
@@ -297,11 +371,27 @@ module _ {D : Type 0} {d : Ghosts D} (k : CopyKey) (bytes : ℕ) (old new : Tabl
       (record (tables_now old) { chunks = record (tables_now old).chunks { places = ps } }))
       (sym (all_gone k (tables_now old).chunks.places)) sound.rules
 
+  maps_gone : IsSoundWithout k.0 old → IsTrue (disk_of old).tells
+      → MapsHold (inside_at (without_copies k.0 (without_copy k (tables_now old))) (disk_of old).image)
+  maps_gone sound told =
+      subst (λ (ps : List (CopyKey × Place)). MapsHold (inside_at
+      (record (tables_now old) { chunks = record (tables_now old).chunks { places = ps } }) (disk_of old).image))
+      (sym (all_gone k (tables_now old).chunks.places)) (sound.maps told)
+
   pub still_without : IsSoundWithout k.0 old → IsSoundWithout k.0 new
   still_without sound = record {
     rules = rules_left (without_copy k) bytes old new drop (λ q. refl) (without_copies k.0) (rules_gone sound);
+    maps = maps_told (without_copy k) bytes old new drop (λ q. refl) (without_copies k.0) (maps_gone sound);
     counted = counted_left (without_copy k) bytes old new drop (λ q. refl) sound.counted;
   }
+
+  last_maps : IsSoundWithout k.0 old → AreOthersGone (tables_now old).chunks.places k → HasMaps new
+  last_maps sound others = maps_told (without_copy k) bytes old new drop (λ q. refl) (λ q. q) (λ told.
+      subst (λ (ps : List (CopyKey × Place)). MapsHold (inside_at
+      (record (tables_now old) { chunks = record (tables_now old).chunks { places = ps } }) (disk_of old).image))
+      (none_left k.0 (where_key pair_cmp (λ q. not (eq_by_cmp pair_cmp k q)) (tables_now old).chunks.places)
+      (gone_copy k (tables_now old).chunks.places others))
+      (maps_gone sound told))
 
   last_rules : IsSoundWithout k.0 old → AreOthersGone (tables_now old).chunks.places k
       → RulesHold (clusters_in new) (tables_now new)
@@ -315,7 +405,7 @@ module _ {D : Type 0} {d : Ghosts D} (k : CopyKey) (bytes : ℕ) (old new : Tabl
   pub last_left : IsSoundWithout k.0 old → AreOthersGone (tables_now old).chunks.places k → IsSound new
   last_left sound others = record {
     rules = last_rules sound others;
-    maps = rules_have_maps new (last_rules sound others);
+    maps = last_maps sound others;
     counted = counted_left (without_copy k) bytes old new drop (λ q. refl) sound.counted;
   }
 
@@ -323,14 +413,24 @@ module _ {D : Type 0} {d : Ghosts D} (k : CopyKey) (bytes : ℕ) (old new : Tabl
 
 module _ {D : Type 0} {d : Ghosts D} (id bytes : ℕ) (old new : Tables D d)
     (drop : IsDroppedIn (without_row id) bytes (states_of old) old new) (sound : IsSound old)
-    (untargeted : IsUntargeted (tables_now old).chunks.rows id) where
+    (untargeted : IsUntargeted (tables_now old).chunks.rows id) (unmapped : IsUnmapped (tables_now old).files id)
+    (out : IsOutOfMaps old id) where
+  maps_out : IsTrue (disk_of old).tells
+      → MapsHold (inside_at (without_copies id (without_row id (tables_now old))) (disk_of old).image)
+  maps_out told = maps_without_row (clusters_in old) (tables_now old) id (disk_of old).image sound.rules untargeted unmapped
+      (out told) (sound.maps told)
+
   pub row_gone : IsSoundWithout id new
   row_gone = without_left (without_row id) bytes old new drop (λ q. refl) id sound
-      (rules_without_row (clusters_in old) (tables_now old) id sound.rules untargeted)
+      (rules_without_row (clusters_in old) (tables_now old) id sound.rules untargeted unmapped) maps_out
 
   pub row_alone : ((copy : ℕ) → find pair_cmp (id, copy) (tables_now old).chunks.places ≡ None) → IsSound new
   row_alone none = sound_left (without_row id) bytes old new drop (λ q. refl) sound
       (subst (λ (ps : List (CopyKey × Place)). RulesHold (clusters_in old)
       (let q = without_row id (tables_now old) in record q { chunks = record q.chunks { places = ps } }))
       (none_left id (tables_now old).chunks.places none)
-      (rules_without_row (clusters_in old) (tables_now old) id sound.rules untargeted))
+      (rules_without_row (clusters_in old) (tables_now old) id sound.rules untargeted unmapped))
+      (λ told. subst (λ (ps : List (CopyKey × Place)). MapsHold (inside_at
+      (let q = without_row id (tables_now old) in record q { chunks = record q.chunks { places = ps } })
+      (disk_of old).image))
+      (none_left id (tables_now old).chunks.places none) (maps_out told))

@@ -3,6 +3,8 @@ mod Finds
 mod Ranges
 mod RowRules
 mod RowViews
+mod MapsLeft
+mod RowMaps
 mod Calls
 mod Added
 mod Dropped

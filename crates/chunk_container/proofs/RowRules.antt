@@ -1,5 +1,5 @@
 -- Rows and copies that are put, and redirects, keep the rules.
-use Rattle.std.specs.Prelude.{◌≡◌, ◌≤◌, ◌<◌, ◌+◌, ◌-◌, ◌^◌, ◌==◌, ℕ, true, false, not, T, List, Option, Some, None, IsSome, IsSomeAnd, refl}
+use Rattle.std.specs.Prelude.{◌≡◌, ◌≤◌, ◌<◌, ◌+◌, ◌==◌, ℕ, true, false, not, T, List, Option, Some, None, IsSome, IsSomeAnd, refl}
 use Rattle.std.proofs.Common.{◌∙◌, ap, sym, subst, arith, ne_eqb, eq-eqb}
 use Rattle.std.specs.Ordering.{nat_cmp}
 use Rattle.std.specs.declared.cmp.Ordering.TheVariants.{Equal}
@@ -7,6 +7,7 @@ use Rattle.std.specs.Cmp.{nat_cmp_total}
 use Rattle.std.specs.FinMap.{find, put, is_sorted}
 use Rattle.std.specs.FinMap.Entries.{where_key}
 use Rattle.std.proofs.lemmas.Map.Lookups.{exact_pairs, exact_unsigned}
+use Rattle.groundwork.specs.declared.limits.TheConstants.{LAST_ID}
 use Rattle.table_records.specs.Keys.{single_cmp, pair_cmp}
 use Rattle.table_records.specs.Orders.{pair_total, single_total}
 use Rattle.table_records.specs.declared.records.VolumeRecord.{VolumeRecord}
@@ -15,11 +16,11 @@ use Rattle.table_records.specs.declared.chunk_records.Place.{Place}
 use Rattle.table_records.specs.declared.chunk_records.Container.{Container}
 use Rattle.table_records.specs.Changes.{is_in_range}
 use Rattle.volume_inside.specs.Changes.{with_row, with_place, keep_rows}
-use Rattle.volume_inside.specs.ChunkRules.{RowHolds, IsTarget, RedirectHolds, PlaceOfHolds, PlaceHolds, FirstCopyHolds}
+use Rattle.volume_inside.specs.ChunkRules.{IsMapRow, MapRowHolds, RowHolds, IsTarget, RedirectHolds, PlaceOfHolds, PlaceHolds, FirstCopyHolds}
 use Rattle.volume_inside.specs.ChunkRules.{ContainerRecordHolds, ContainerHolds, ContainersHold, ChunksHold}
+use Rattle.volume_inside.specs.declared.chunk_rules.TheConstants.{DATA_ROW}
 use Rattle.volume_inside.specs.ChunkTables.{ChunkTables, CopyKey}
 use Rattle.volume_inside.specs.Entries.{Each, each_put, each_found, each_weaker}
-use Rattle.volume_inside.proofs.Lawfuls.{no_map_rows}
 use Rattle.volume_inside.specs.Rules.{IsVolumeRecord, id_after, next_id_of, FileHolds, RulesHold}
 use Rattle.volume_inside.specs.Typed.{Typed}
 use Rattle.volume_tables.specs.Wants.{last_id}
@@ -83,7 +84,7 @@ drawn_containers n low high t le h = record {
 }
 
 -- the record of a volume that is there
-volume_next : (o : Option VolumeRecord) → IsSomeAnd o IsVolumeRecord → (1 ≤ id_after o) × (id_after o ≤ 2 ^ 48 - 1)
+volume_next : (o : Option VolumeRecord) → IsSomeAnd o IsVolumeRecord → (1 ≤ id_after o) × (id_after o ≤ LAST_ID)
 volume_next None none = absurd none
 volume_next (Some v) holds = (holds.some_id, holds.last_id)
 
@@ -156,7 +157,7 @@ module _ (n : ℕ) (t : Typed) (rules : RulesHold n t) where
       (each_weaker (RowHolds (next_id_of t)) (λ x r. x < next_id_of t) t.chunks.rows (λ x r h. h.drawn)
       rules.chunks.rows)))
 
-  pub next_bounds : (1 ≤ next_id_of t) × (next_id_of t ≤ 2 ^ 48 - 1)
+  pub next_bounds : (1 ≤ next_id_of t) × (next_id_of t ≤ LAST_ID)
   next_bounds = volume_next (find single_cmp tt t.volume) rules.records.volume
 
   -- A NEW ROW, whose id is drawn
@@ -178,8 +179,9 @@ module _ (n : ℕ) (t : Typed) (rules : RulesHold n t) where
           short = h.short;
           cover = h.cover;
         }) rules.files);
-    map_rows = no_map_rows (next_id_of t) (with_new_row row p t).chunks.rows t.files rules.files rules.bare;
-    bare = rules.bare;
+    map_rows = each_weaker (MapRowHolds t.chunks.rows) (MapRowHolds (with_new_row row p t).chunks.rows) t.files
+        (λ x f holds some. some_same n (next_id_of t) t.chunks rules.chunks row p new fits next_bounds.0 IsMapRow f.map_row
+        (holds some)) rules.map_rows;
     extents = rules.extents;
     chunks = subst (λ (next : ℕ). ChunksHold n next (with_new_row row p t).chunks) (sym (ap id_after volume_after))
         (chunks_new_row n (next_id_of t) t.chunks rules.chunks row p new fits next_bounds.0);
@@ -192,7 +194,7 @@ module _ (n : ℕ) (t : Typed) (rules : RulesHold n t) where
           found_put single_cmp single_total tt (record { version = 1; next_id = next_id_of t + 1 }) t.volume
 
   -- an id of a row has six bytes
-  pub id_fits : (id : ℕ) → IsSome (find nat_cmp id t.chunks.rows) → id < 2 ^ 48
+  pub id_fits : (id : ℕ) → IsSome (find nat_cmp id t.chunks.rows) → id ≤ LAST_ID
   id_fits id there =
       let low = low_row (next_id_of t) t.chunks rules.chunks.rows id there in
       let most = next_bounds.1 in
@@ -207,7 +209,6 @@ module _ (n : ℕ) (t : Typed) (rules : RulesHold n t) where
     names = rules.names;
     files = rules.files;
     map_rows = rules.map_rows;
-    bare = rules.bare;
     extents = rules.extents;
     chunks = record {
       rows = rules.chunks.rows;
@@ -317,6 +318,14 @@ module _ (n next : ℕ) (t : ChunkTables) (h : ChunksHold n next t) (id to : ℕ
     };
   }
 
+-- the row of a map is not that of a chunk
+pub data_differs : (rows : List (ℕ × Row)) (m id : ℕ) (row : Row) → find nat_cmp id rows ≡ Some row
+    → row.kind ≡ DATA_ROW → IsSomeAnd (find nat_cmp m rows) IsMapRow → m ≡ id → ⊥
+data_differs rows m id row there kind is same =
+    let here : find nat_cmp m rows ≡ Some row = ap (λ (x : ℕ). find nat_cmp x rows) same ∙ there in
+    let map = subst (λ (o : Option Row). IsSomeAnd o IsMapRow) here is in
+    omega (arith, kind, map)
+
 -- A REDIRECT to a row that may stand for it
 pub rules_redirected : (n : ℕ) (t : Typed) (id to : ℕ) (row : Row) → RulesHold n t
     → IsRedirectable t.chunks.rows id to row → T (is_sorted nat_cmp t.chunks.rows)
@@ -325,8 +334,9 @@ rules_redirected n t id to row rules may sorted = record {
   records = rules.records;
   names = rules.names;
   files = rules.files;
-  map_rows = no_map_rows (next_id_of t) (redirected id to row t).chunks.rows t.files rules.files rules.bare;
-  bare = rules.bare;
+  map_rows = each_weaker (MapRowHolds t.chunks.rows) (MapRowHolds (redirected id to row t).chunks.rows) t.files
+      (λ x f holds some. other_same n (next_id_of t) t.chunks rules.chunks id to row may sorted IsMapRow f.map_row
+      (data_differs t.chunks.rows f.map_row id row may.there may.kind (holds some)) (holds some)) rules.map_rows;
   extents = rules.extents;
   chunks = chunks_redirected n (next_id_of t) t.chunks rules.chunks id to row may sorted;
   clusters = rules.clusters;

@@ -1,47 +1,62 @@
 -- What rows and copies are read as once the tables of chunks have changed, and that no file sees it.
-use Rattle.std.specs.Prelude.{◌≡◌, ◌⊎◌, ◌<◌, ℕ, zero, suc, cond, List, [], ◌∷◌, ◌++◌, Option, Some, None, IsSome, refl}
+use Rattle.std.specs.Prelude.{◌≡◌, ◌⊎◌, ◌<◌, ◌/◌, ◌%◌, ℕ, zero, suc, cond, List, [], ◌∷◌, ◌++◌, map, Option, Some, None, IsSome, refl}
 use Rattle.std.proofs.Common.{◌∙◌, ap, sym, subst, inl, inr, arith}
 use Rattle.std.specs.declared.cmp.Ordering.TheVariants.{Less, Equal, Greater}
 use Rattle.std.specs.Ordering.{nat_cmp, is_eq}
 use Rattle.std.specs.Cmp.{nat_cmp_total}
+use Rattle.std.specs.List.{range_with_len}
 use Rattle.std.specs.FinMap.{find}
 use Rattle.std.proofs.lemmas.Bool.{cases_eq}
 use Rattle.std.proofs.lemmas.Map.Lookups.{exact_unsigned}
 use Rattle.vdisk.specs.Ranges.{part}
 use Rattle.table_records.specs.Keys.{pair_cmp}
 use Rattle.table_records.specs.Orders.{pair_total}
+use Rattle.table_records.specs.declared.records.FileRecord.{FileRecord}
 use Rattle.table_records.specs.declared.chunk_records.Row.{Row}
 use Rattle.table_records.specs.declared.chunk_records.Place.{Place}
-use Rattle.volume_inside.specs.Bases.{bases_of}
+use Rattle.volume_inside.specs.declared.layout.TheConstants.{CLUSTER_BYTES}
+use Rattle.volume_inside.specs.Bases.{bases_of, base_cell}
 use Rattle.volume_inside.specs.ChunkChanges.{Extends}
-use Rattle.volume_inside.specs.ChunkRules.{IsTarget, RedirectHolds, RedirectsHold, HasNoBase, BaseHolds, PlaceOfHolds}
+use Rattle.volume_inside.specs.ChunkRules.{IsTarget, RedirectHolds, RedirectsHold, MapsHold, PlaceOfHolds}
 use Rattle.volume_inside.specs.Chunks.{chunk, copies_of, copy_of, length_or_none}
 use Rattle.volume_inside.specs.ChunkTables.{ChunkTables, CopyKey}
 use Rattle.volume_inside.specs.Entries.{each_found, each_weaker}
-use Rattle.volume_inside.specs.Inside.{inside_at, blocks_of}
+use Rattle.volume_inside.specs.Inside.{Inside, inside_at, blocks_of}
 use Rattle.volume_inside.specs.Joins.{HasCover}
 use Rattle.volume_inside.specs.Pages.{page_bytes, page_length, pages_from, pages_of, used_of, content}
 use Rattle.volume_inside.specs.Rules.{FileHolds, next_id_of, RulesHold}
 use Rattle.volume_inside.specs.Typed.{Typed}
-use Rattle.volume_inside.specs.View.{view}
+use Rattle.volume_inside.specs.View.{cell_in, cells_or_none, view}
 use Rattle.volume_inside.proofs.BaseGrown.{chunk_stays}
-use Rattle.volume_inside.proofs.Joined.{view_by_chunks}
+use Rattle.volume_inside.proofs.Joined.{view_by_cells, view_by_chunks}
 use Rattle.chunk_container.specs.Rows.{IsNewRow, with_new_row}
 use Rattle.chunk_container.proofs.Finds.{some_and, found_put, found_other}
 use Rattle.chunk_container.proofs.RowRules.{exact_keys, low_row, row_same, next_bounds}
 
 -- ---- the same chunks, the same view
 
-pub view_rows : (n : ℕ) (t u : Typed) (image : List ℕ) → RulesHold n t → u.names ≡ t.names → u.files ≡ t.files
+pub view_rows : (n : ℕ) (t u : Typed) (image : List ℕ) → RulesHold n t → MapsHold (inside_at t image) → u.names ≡ t.names → u.files ≡ t.files
     → u.extents ≡ t.extents
     → ((id : ℕ) → IsSome (find nat_cmp id t.chunks.rows)
     → chunk (bases_of u image) id ≡ chunk (bases_of t image) id)
     → view (inside_at u image) ≡ view (inside_at t image)
-view_rows n t u image rules names files extents chunks =
+view_rows n t u image rules maps names files extents chunks =
     view_by_chunks (inside_at t image) (inside_at u image) names files (λ i. blocks_of (extents i) image) chunks
     rules.map_rows
     (each_weaker (FileHolds (next_id_of t)) HasCover t.files (λ id file holds. holds.cover.no_cover) rules.files)
-    (each_weaker HasNoBase (BaseHolds (bases_of t image)) t.files (λ id file none some. absurd (some none)) rules.bare)
+    maps
+
+-- the same names, files, blocks and bases
+pub view_by_bases : (i j : Inside) → j.names ≡ i.names → j.files ≡ i.files → j.blocks ≡ i.blocks → j.bases ≡ i.bases
+    → view j ≡ view i
+view_by_bases i j names files blocks bases = view_by_cells i j names (λ id.
+    ap (λ (fs : List (ℕ × FileRecord)). cells_or_none j id (find nat_cmp id fs)) files
+    ∙ of_file id (find nat_cmp id i.files))
+  where
+    of_file : (id : ℕ) (o : Option FileRecord) → cells_or_none j id o ≡ cells_or_none i id o
+    of_file id None = refl
+    of_file id (Some file) = λ k. map (λ p. cell_in (find pair_cmp (id, p / CLUSTER_BYTES) (blocks k)) (p % CLUSTER_BYTES)
+        (base_cell (bases k) file p)) (range_with_len 0 file.length)
 
 -- ---- the bytes of copies
 
@@ -101,12 +116,12 @@ redirect_there t hold id row is = elim (cases_eq row.redirect 0) [
 
 module _ (n : ℕ) (t : Typed) (rules : RulesHold n t) (row : Row) (p : Place) (new : IsNewRow row)
     (fits : PlaceOfHolds t.chunks.containers 0 p row) (image : List ℕ) where
-  row_stays : (id : ℕ) → IsSome (find nat_cmp id t.chunks.rows)
+  pub row_stays : (id : ℕ) → IsSome (find nat_cmp id t.chunks.rows)
       → find nat_cmp id (with_new_row row p t).chunks.rows ≡ find nat_cmp id t.chunks.rows
   row_stays id there =
       row_same n (next_id_of t) t.chunks rules.chunks row p new fits (next_bounds n t rules).0 id there
 
-  place_stays : (id copy : ℕ) → IsSome (find nat_cmp id t.chunks.rows)
+  pub place_stays : (id copy : ℕ) → IsSome (find nat_cmp id t.chunks.rows)
       → find pair_cmp (id, copy) (with_new_row row p t).chunks.places
       ≡ find pair_cmp (id, copy) t.chunks.places
   place_stays id copy there =
@@ -125,8 +140,8 @@ module _ (n : ℕ) (t : Typed) (rules : RulesHold n t) (row : Row) (p : Place) (
   }
 
   -- and no file sees the new one
-  pub view_new : view (inside_at (with_new_row row p t) image) ≡ view (inside_at t image)
-  view_new = view_rows n t (with_new_row row p t) image rules refl refl refl
+  pub view_new : MapsHold (inside_at t image) → view (inside_at (with_new_row row p t) image) ≡ view (inside_at t image)
+  view_new maps = view_rows n t (with_new_row row p t) image rules maps refl refl refl
       (λ id there. chunk_stays (bases_of t image) (bases_of (with_new_row row p t) image) extends_new id there)
 
 -- the first copy of a new row

@@ -1,12 +1,14 @@
 -- What a call on rows does, in one record.
-use Rattle.std.specs.Prelude.{◌≡◌, ◌⊎◌, ◌+◌, ℕ, true, false, length, None, IsSome, Result, OnOk, OnErr, IfErr, IsErrOf}
+use Rattle.std.specs.Prelude.{◌≡◌, ◌⊎◌, ◌+◌, ℕ, true, false, length, None, IsSome, IsTrue, Result, OnOk, OnErr, IfErr, IsErrOf}
 use Rattle.std.specs.Ordering.{nat_cmp}
 use Rattle.std.specs.FinMap.{find}
 use Rattle.vdisk.specs.declared.disk.Disk.{Ghosts}
 use Rattle.cluster_space.specs.States.{free_in, deferred_in}
 use Rattle.plain_volume.specs.declared.call.Fault.{Fault}
 use Rattle.plain_volume.specs.declared.call.Fault.TheVariants.{Failed, Memory}
+use Rattle.volume_inside.specs.ChunkRules.{MapsHold}
 use Rattle.volume_inside.specs.Chunks.{chunk}
+use Rattle.volume_inside.specs.Inside.{inside_at}
 use Rattle.volume_inside.specs.Layout.{data_clusters}
 use Rattle.volume_inside.specs.Named.{clusters_of}
 use Rattle.volume_inside.specs.Rules.{RulesHold}
@@ -42,14 +44,18 @@ module _ {D : Type 0} {d : Ghosts D} where
       (result : Result (Unit {0}) Fault) : Type 0 where
     pub ok : OnOk result (tables_now new ≡ change (tables_now old))
     pub err : OnErr result (tables_now new ≡ tables_now old)
+    pub inside : OnOk result (inside_now new ≡ inside_at (change (tables_now old)) (disk_of old).image)
     pub unchanged : OnErr result (inside_now new ≡ inside_now old)
     pub none : OnOk result (wanting old n ≡ None)
     pub refused : IfErr result (λ fault. IsWanting old new n fault
         ⊎ ((fault ≡ Memory) × takes × (wanting old n ≡ None)))
-    -- where each row that was there has the chunk that it had, all files are seen as they were
-    pub seen : ((id : ℕ) → IsSome (find nat_cmp id (tables_now old).chunks.rows)
+    -- where each row that was there has the chunk that it had, and the disk tells what it holds, all files are seen as
+    -- they were
+    pub seen : IsTrue (disk_of old).tells → ((id : ℕ) → IsSome (find nat_cmp id (tables_now old).chunks.rows)
         → chunk (bases_now new) id ≡ chunk (bases_now old) id) → view_now new ≡ view_now old
-    pub sound : IsSound new
+    -- sound, where the maps of files are as they should be in the changed tables
+    pub sound : (IsTrue (disk_of old).tells → MapsHold (inside_at (change (tables_now old)) (disk_of old).image))
+        → IsSound new
     pub endures : Endures old new
     -- whether the tables are stopped then: just where it failed
     pub stops : stopped new ≡ true → IsErrOf result Failed
@@ -61,6 +67,7 @@ module _ {D : Type 0} {d : Ghosts D} where
   -- The tables are sound but for the copies of a row, which may be gone.
   pub record IsSoundWithout (id : ℕ) (t : Tables D d) : Type 0 where
     pub rules : RulesHold (clusters_in t) (without_copies id (tables_now t))
+    pub maps : IsTrue (disk_of t).tells → MapsHold (inside_at (without_copies id (tables_now t)) (disk_of t).image)
     pub counted : stopped t ≡ false →
         free_in (states_of t) + deferred_in (states_of t) + length (clusters_of (tables_now t))
         ≡ data_clusters (clusters_in t)

@@ -1,8 +1,9 @@
 //! Copies of rows are added, and copies and rows are dropped.
 
-ghost use Rattle.std.specs.Prelude.{◌≡◌, ◌≤◌, ◌<◌, ◌+◌, ◌^◌, ℕ, false, None, IsSomeAnd};
+ghost use Rattle.std.specs.Prelude.{◌≡◌, ◌≤◌, ◌<◌, ◌+◌, ◌^◌, ℕ, false, None, IsSomeAnd, IsTrue};
 ghost use Rattle.std.specs.Ordering.{nat_cmp};
 ghost use Rattle.std.specs.FinMap.{find};
+ghost use Rattle.groundwork.specs.declared.limits.TheConstants.{LAST_ID};
 ghost use Rattle.table_records.specs.Keys.{pair_cmp};
 ghost use Rattle.volume_inside.specs.Changes.{with_place};
 ghost use Rattle.volume_inside.specs.ChunkRules.{PlaceOfHolds};
@@ -10,8 +11,8 @@ ghost use Rattle.volume_inside.specs.Chunks.{chunk};
 ghost use Rattle.volume_tables.specs.declared.room.TheConstants.{MOST_RECORDS};
 ghost use Rattle.volume_tables.specs.Setters.{IsDroppedIn};
 ghost use Rattle.volume_tables.specs.Sound.{IsSound};
-ghost use Rattle.volume_tables.specs.Tables.{tables_now, view_now, states_of, staged_of, stopped, new_bytes};
-ghost use Rattle.chunk_container.specs.Bases.{bases_now};
+ghost use Rattle.volume_tables.specs.Tables.{tables_now, view_now, states_of, staged_of, disk_of, stopped, new_bytes};
+ghost use Rattle.chunk_container.specs.Bases.{bases_now, IsOutOfMaps};
 ghost use Rattle.chunk_container.specs.Calls.{IsRowCall, IsSoundWithout};
 ghost use Rattle.chunk_container.specs.Rows.{copy_at as number_at, copy_needs, without_copy, without_row};
 ghost use Rattle.chunk_container.specs.Rows.{IsUntargeted, IsUnmapped, AreOthersGone};
@@ -50,7 +51,7 @@ fn put_copy<D: Disk>(tables: &mut Tables<D>, id: u64, copy: u8, place: Place) ->
         (PlaceOfHolds (tables_now tables.old).chunks.containers copy place) }
     ensures call { IsRowCall (find pair_cmp (id, copy) (tables_now tables.old).chunks.places ≡ None)
         (with_place (id, copy) place) (copy_needs (id, copy) (tables_now tables.old)) 27 tables.old tables.new result }
-    ensures view { chunk (bases_now tables.new) id ≡ chunk (bases_now tables.old) id →
+    ensures view { IsTrue (disk_of tables.old).tells → chunk (bases_now tables.new) id ≡ chunk (bases_now tables.old) id →
         view_now tables.new ≡ view_now tables.old }
 {
     let grows = copy_grows(tables, (id, copy));
@@ -63,7 +64,7 @@ impl<D: Disk> Store<D> {
 
     /// Puts a copy of a row that lies at this place: its second one in a container of second copies, and else its first
     /// one. A place of that copy that stood there is replaced, which takes no memory. Where the row keeps its chunk, no
-    /// file sees it.
+    /// file sees it. The tables stay sound where the maps of files are as they should be with that copy.
     ///
     /// The faults, in this order: `TableFull`, `Worn` where a commit must come first and is worn, `Failed`; and `Memory`.
     pub fn add_copy(&mut self, id: u64, place: Place) -> Result<(), Fault>
@@ -76,7 +77,8 @@ impl<D: Disk> Store<D> {
             IsRowCall (find pair_cmp (id, copy) (tables_now (tables_of self.old)).chunks.places ≡ None)
             (with_place (id, copy) place) (copy_needs (id, copy) (tables_now (tables_of self.old))) 27
             (tables_of self.old) (tables_of self.new) result }
-        ensures view { chunk (bases_now (tables_of self.new)) id ≡ chunk (bases_now (tables_of self.old)) id →
+        ensures view { IsTrue (disk_of (tables_of self.old)).tells →
+            chunk (bases_now (tables_of self.new)) id ≡ chunk (bases_now (tables_of self.old)) id →
             view_now (tables_of self.new) ≡ view_now (tables_of self.old) }
         ensures open { open_in self.new ≡ open_in self.old }
     {
@@ -103,17 +105,18 @@ impl<D: Disk> Store<D> {
 
     /// Drops a row, if it is there, and leaves its copies. Room for 23 bytes of records was ensured. It takes no memory.
     ///
-    /// The tables stay sound where no copy, no redirect and no file names the row. Where copies of it are left, they are
+    /// The tables stay sound where no copy, no redirect, no file and no map of one names the row. Where copies of it are left, they are
     /// sound once these are dropped.
     pub fn drop_row(&mut self, id: u64)
-        requires id { id < 2 ^ 48 }
+        requires id { id ≤ LAST_ID }
         requires room { staged_of (tables_of self.old) + 23 ≤ MOST_RECORDS }
         ensures dropped { IsDroppedIn (without_row id) 23 (states_of (tables_of self.old))
             (tables_of self.old) (tables_of self.new) }
         ensures without { IsSound (tables_of self.old) → IsUntargeted (tables_now (tables_of self.old)).chunks.rows id →
-            IsUnmapped (tables_now (tables_of self.old)).files id → IsSoundWithout id (tables_of self.new) }
+            IsUnmapped (tables_now (tables_of self.old)).files id → IsOutOfMaps (tables_of self.old) id →
+            IsSoundWithout id (tables_of self.new) }
         ensures alone { IsSound (tables_of self.old) → IsUntargeted (tables_now (tables_of self.old)).chunks.rows id →
-            IsUnmapped (tables_now (tables_of self.old)).files id →
+            IsUnmapped (tables_now (tables_of self.old)).files id → IsOutOfMaps (tables_of self.old) id →
             ((copy : ℕ) → find pair_cmp (id, copy) (tables_now (tables_of self.old)).chunks.places ≡ None) →
             IsSound (tables_of self.new) }
         ensures open { open_in self.new ≡ open_in self.old }

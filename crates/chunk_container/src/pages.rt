@@ -4,10 +4,10 @@ ghost use Rattle.std.specs.Prelude.{◌≡◌, ◌⊎◌, ◌≤◌, ◌<◌, �
 ghost use Rattle.std.specs.Prelude.{IfOk, OnOk, OnErr, IsErrOf};
 ghost use Rattle.std.specs.Ordering.{nat_cmp};
 ghost use Rattle.std.specs.FinMap.{find, is_sorted};
+ghost use Rattle.volume_inside.specs.declared.chunk_rules.TheConstants.{MOST_MAP_BYTES, MOST_PAGES};
 ghost use Rattle.vdisk.specs.Causes.{Rose};
 ghost use Rattle.cluster_space.specs.States.{free_in};
 ghost use Rattle.table_records.specs.Keys.{pair_cmp};
-ghost use Rattle.volume_inside.specs.declared.chunk_rules.TheConstants.{MOST_MAP_BYTES};
 ghost use Rattle.volume_inside.specs.declared.layout.TheConstants.{CLUSTER_BYTES};
 ghost use Rattle.volume_inside.specs.Changes.{with_cluster};
 ghost use Rattle.volume_inside.specs.Inside.{inside_at};
@@ -90,7 +90,7 @@ fn write_ahead<D: Disk>(tables: &mut Tables<D>, bytes: &[u8], ahead: Run) -> Res
 /// Drops a page that was named last, whose cluster is deferred.
 fn take_back<D: Disk>(tables: &mut Tables<D>, key: (u64, u32))
     requires room { staged_of tables.old + 31 ≤ MOST_RECORDS }
-    requires low { key.1 < 4096 }
+    requires low { key.1 < MOST_PAGES }
     requires there { IsSome (find pair_cmp key (tables_now tables.old).chunks.clusters) }
     ensures tables { (t : Typed) (cluster : ℕ) → T (is_sorted pair_cmp t.chunks.clusters) →
         find pair_cmp key t.chunks.clusters ≡ None →
@@ -117,7 +117,7 @@ pub(crate) fn put_pages<D: Disk>(
 ) -> Result<(), Fault>
     requires running { stopped tables.old ≡ false }
     requires short { length bytes.now ≤ MOST_MAP_BYTES }
-    requires low { key.1 + pages_of (length bytes.now) ≤ 4096 }
+    requires low { key.1 + pages_of (length bytes.now) ≤ MOST_PAGES }
     requires bare { (index : ℕ) → key.1 ≤ index →
         find pair_cmp (key.0, index) (tables_now tables.old).chunks.clusters ≡ None }
     requires grows { used_of (tables_now tables.old).chunks.containers key.0 ≤ container.used }

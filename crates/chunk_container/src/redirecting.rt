@@ -1,8 +1,9 @@
 //! Rows are redirected to others that have the same chunk.
 
-ghost use Rattle.std.specs.Prelude.{◌≡◌, ◌≤◌, ◌<◌, ◌+◌, ◌^◌, ℕ, false, Some, IsSome, IsSomeAnd, OnOk};
+ghost use Rattle.std.specs.Prelude.{◌≡◌, ◌≤◌, ◌<◌, ◌+◌, ◌^◌, ℕ, false, Some, IsSome, IsSomeAnd, IsTrue, OnOk};
 ghost use Rattle.std.specs.Ordering.{nat_cmp};
 ghost use Rattle.std.specs.FinMap.{find};
+ghost use Rattle.groundwork.specs.declared.limits.TheConstants.{LAST_ID};
 ghost use Rattle.table_records.specs.declared.chunk_records.Row.{Row as RowRecord};
 ghost use Rattle.volume_inside.specs.ChunkChanges.{IsRedirected};
 ghost use Rattle.volume_inside.specs.Chunks.{own_chunk};
@@ -21,7 +22,7 @@ use volume_tables::{Row, Tables, make_room};
 /// Sets the redirect of a row that is there, and drops the copies of it.
 fn put_redirect<D: Disk>(tables: &mut Tables<D>, id: u64, row: Row, to: u64)
     requires there { IsSome (find nat_cmp id (tables_now tables.old).chunks.rows) }
-    requires id { id < 2 ^ 48 }
+    requires id { id ≤ LAST_ID }
     requires room { staged_of tables.old + 89 ≤ MOST_RECORDS }
     ensures tables { tables_now tables.new ≡ redirected id to row (tables_now tables.old) }
     ensures leaves { Leaves tables.old tables.new }
@@ -53,6 +54,7 @@ impl<D: Disk> Store<D> {
         ensures call { (row : RowRecord) → find nat_cmp id (tables_now (tables_of self.old)).chunks.rows ≡ Some row →
             IsRowCall ⊥ (redirected id to row) redirect_needs redirect_bytes (tables_of self.old) (tables_of self.new)
             result }
+        ensures sound { IsSound (tables_of self.new) }
         ensures alike { (row target : RowRecord) →
             find nat_cmp id (tables_now (tables_of self.old)).chunks.rows ≡ Some row →
             find nat_cmp to (tables_now (tables_of self.old)).chunks.rows ≡ Some target →
@@ -62,7 +64,7 @@ impl<D: Disk> Store<D> {
             find nat_cmp id (tables_now (tables_of self.old)).chunks.rows ≡ Some row →
             find nat_cmp to (tables_now (tables_of self.old)).chunks.rows ≡ Some target →
             own_chunk (bases_now (tables_of self.old)) to target ≡ own_chunk (bases_now (tables_of self.old)) id row →
-            view_now (tables_of self.new) ≡ view_now (tables_of self.old) }
+            IsTrue (disk_of (tables_of self.old)).tells → view_now (tables_of self.new) ≡ view_now (tables_of self.old) }
         ensures open { open_in self.new ≡ open_in self.old }
     {
         let row = self.tables.get_row(id).unwrap();

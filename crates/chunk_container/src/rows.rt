@@ -1,6 +1,6 @@
 //! Rows are added.
 
-ghost use Rattle.std.specs.Prelude.{◌≡◌, ◌≤◌, ◌+◌, false, IfOk, IsErrOf, OnOk, OnErr};
+ghost use Rattle.std.specs.Prelude.{◌≡◌, ◌≤◌, ◌+◌, false, IfOk, IsErrOf, IsTrue, OnOk, OnErr};
 ghost use Rattle.volume_inside.specs.ChunkChanges.{Extends};
 ghost use Rattle.volume_inside.specs.ChunkRules.{PlaceOfHolds};
 ghost use Rattle.volume_inside.specs.Layout.{half_bytes};
@@ -51,8 +51,9 @@ fn add<D: Disk>(tables: &mut Tables<D>, row: Row, place: Place) -> Result<(), Fa
     requires new { IsNewRow row }
     requires place { PlaceOfHolds (tables_now tables.old).chunks.containers 0 place row }
     ensures call { IsRowCall (Unit {0}) (with_new_row row place) row_needs row_bytes tables.old tables.new result }
+    ensures sound { IsSound tables.new }
     ensures extends { OnOk result (Extends (bases_now tables.old) (bases_now tables.new)) }
-    ensures view { view_now tables.new ≡ view_now tables.old }
+    ensures view { IsTrue (disk_of tables.old).tells → view_now tables.new ≡ view_now tables.old }
 {
     make_room(tables, true, 91, 132, 0)?;
     put_row(tables, row, place)
@@ -61,7 +62,8 @@ fn add<D: Disk>(tables: &mut Tables<D>, row: Row, place: Place) -> Result<(), Fa
 impl<D: Disk> Store<D> {
     ghost use Rattle.chunk_container.specs.Stores.{tables_of, open_in};
 
-    /// Adds a row, which draws the next id, and whose first copy lies at this place. No file sees it.
+    /// Adds a row, which draws the next id, and whose first copy lies at this place. No file sees it. In the clauses a
+    /// disk tells what it holds where its content is known.
     ///
     /// The faults, in this order: `Worn` where no id is left, `TableFull`, `Worn` where a commit must come first and is
     /// worn, `Failed`; and `Memory`.
@@ -73,9 +75,11 @@ impl<D: Disk> Store<D> {
         ensures id { IfOk result (λ id. id ≡ next_id_of (tables_now (tables_of self.old))) }
         ensures call { IsRowCall (Unit {0}) (with_new_row row place) row_needs row_bytes
             (tables_of self.old) (tables_of self.new) (without_id result) }
+        ensures sound { IsSound (tables_of self.new) }
         ensures extends { OnOk result (Extends (bases_now (tables_of self.old)) (bases_now (tables_of self.new))) }
-        ensures copy { IfOk result (λ id. HasFirstCopy id row place (tables_of self.new)) }
-        ensures view { view_now (tables_of self.new) ≡ view_now (tables_of self.old) }
+        ensures copy { IfOk result (λ id. HasFirstCopy id row place (tables_of self.old) (tables_of self.new)) }
+        ensures view { IsTrue (disk_of (tables_of self.old)).tells →
+            view_now (tables_of self.new) ≡ view_now (tables_of self.old) }
         ensures open { open_in self.new ≡ open_in self.old }
     {
         let id = self.tables.stored_next_id();

@@ -32,6 +32,18 @@ fn fronts_of(alloc: Global, script: &[u8], reading: &[u8]) -> Result<Vec<Vec<u8>
     Ok(fronts)
 }
 
+/// What the reading of a run tells after each front of its calls: what the row says, or else a plain volume in memory.
+fn fronts_for(alloc: Global, run: &Run) -> Result<Vec<Vec<u8>>, RowFault> {
+    if run.fronts.is_empty() {
+        return fronts_of(alloc, &run.script, &run.reading);
+    }
+    let mut fronts = Vec::new(alloc);
+    for front in &run.fronts {
+        fronts.push(front.as_slice().to_vec(alloc)?)?;
+    }
+    Ok(fronts)
+}
+
 /// How many calls the last acknowledgement holds.
 fn acknowledged(outcome: &Outcome) -> u64 {
     let mut calls = 0;
@@ -128,7 +140,7 @@ fn is_whole(alloc: Global, run: &Run, fronts: &[Vec<u8>], ran: &Ran) -> Result<b
 /// Is a run as it is told over the image, which its settings change, and does it survive a stop at each call of its
 /// disk? Each image that a crash then leaves holds a front of the calls that has all the acknowledged ones.
 pub fn survives(alloc: Global, run: &Run, image: &[u8]) -> Result<bool, RowFault> {
-    let fronts = fronts_of(alloc, &run.script, &run.reading)?;
+    let fronts = fronts_for(alloc, run)?;
     let reading = reading_of(alloc, run)?;
     let before = disk_for(alloc, run, image)?;
     for stop in 1..MOST_STOPS {

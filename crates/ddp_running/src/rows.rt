@@ -26,6 +26,9 @@ pub struct Run {
     pub output: Vec<u8>,
     /// The script that is read back behind a crash.
     pub reading: Vec<u8>,
+    /// What it tells after each front of the script's calls, the empty one first; none where a plain volume in memory tells
+    /// that.
+    pub fronts: Vec<Vec<u8>>,
     /// All acknowledgements; none where they are not looked at.
     pub acks: Vec<Durable>,
     pub end: End,
@@ -38,6 +41,7 @@ impl Run {
             script: Vec::new(alloc),
             output: Vec::new(alloc),
             reading: Vec::new(alloc),
+            fronts: Vec::new(alloc),
             acks: Vec::new(alloc),
             end: End::Plain,
         }

@@ -27,12 +27,25 @@ fn push_lines(alloc: Global, to: &mut Vec<u8>, mut asked: Asked<'_>) -> Result<(
     Ok(push_drawn(alloc, to, seed, asked.number()?)?)
 }
 
+/// Adds a line of what is read back after a front of the calls.
+fn push_front_line(alloc: Global, run: &mut Run, text: &[u8]) -> Result<(), RowFault> {
+    if run.fronts.is_empty() {
+        run.fronts.push(Vec::new(alloc))?;
+    }
+    if let Some(front) = run.fronts.last_mut() {
+        push_line(front, text)?;
+    }
+    Ok(())
+}
+
 /// Takes a line of a run in.
 fn take_in(alloc: Global, run: &mut Run, mark: u8, text: &[u8]) -> Result<(), RowFault> {
     match mark {
         b'>' => push_line(&mut run.script, text)?,
         b'<' => push_line(&mut run.output, text)?,
         b'?' => push_line(&mut run.reading, text)?,
+        b'~' => push_front_line(alloc, run, text)?,
+        b'|' => run.fronts.push(Vec::new(alloc))?,
         b'+' => push_many(alloc, &mut run.script, text)?,
         b'-' => push_many(alloc, &mut run.output, text)?,
         b':' => run.settings.push(setting_of(alloc, text)?)?,

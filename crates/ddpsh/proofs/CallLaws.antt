@@ -227,7 +227,7 @@ module _ {D : Type 0} {d : Ghosts D} where
       → (wears_at (volume_state v) ≡ true → (volume_state v).pending.epoch ≡ last_epoch)
       → Moves (call.Stat name) given (volume_state v) (volume_state v)
   stat_moves v name given law = record {
-    told = λ told. sym (after_leaves (call.Stat name) given (volume_state v) refl refl);
+    told = λ told. sym (after_leaves (call.Stat name) given (volume_state v) refl refl refl);
     inside = sym (stat_inside (volume_state v).inside name given);
     clusters = refl;
     reads = λ none. refl;

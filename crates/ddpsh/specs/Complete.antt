@@ -1,5 +1,6 @@
 -- What a run comes to where nothing fails.
 use Rattle.std.specs.Prelude.{◌≡◌, ◌⊎◌, ◌≤◌, ◌<◌, ◌*◌, ℕ, IsTrue, List, length, Ok}
+use Rattle.volume_inside.specs.declared.layout.TheConstants.{CLUSTER_BYTES}
 use Rattle.vdisk.specs.Disk.{DiskState}
 use Rattle.vdisk.specs.Causes.{Rose}
 use Rattle.volume_inside.specs.Inside.{Inside}
@@ -12,7 +13,7 @@ use Rattle.ddpsh.specs.declared.commands.Command.TheVariants.{Mount, Format}
 -- the disk tells an image that holds a volume, or is not longer than the volume that is to be made on it
 abbrev pub CanOpen : Command → DiskState → Type 0
 CanOpen Mount disk = IsTrue disk.tells × ((inside : Inside) × InsideOf read_meta disk.image (Ok inside))
-CanOpen (Format clusters) disk = length disk.image ≤ 4096 * clusters
+CanOpen (Format clusters) disk = length disk.image ≤ CLUSTER_BYTES * clusters
 
 -- a count of faults that does not tell of any
 abbrev pub DidNotRise : ℕ → ℕ → Type 0

@@ -2,7 +2,7 @@
 // that no caller reads the contracts of the tables.
 ghost use Rattle.std.specs.Prelude.{◌≡◌, false};
 ghost use Rattle.volume_inside.specs.Rules.{RulesHold};
-ghost use Rattle.volume_tables.specs.Tables.{tables_now, stopped};
+ghost use Rattle.volume_tables.specs.Tables.{tables_now, stopped, HasMaps};
 
 use crate::memory::{disk_of, disk_of_zeros};
 use plain_volume::Fault;
@@ -32,7 +32,9 @@ pub fn fresh(alloc: Global) -> Result<MemoryDisk, RowFault> {
 
 fn set_end<D: Disk>(tables: &mut Tables<D>, end: End)
     requires rules { RulesHold tables.old.clusters (tables_now tables.old) }
+    requires maps { HasMaps tables.old }
     ensures rules { RulesHold tables.new.clusters (tables_now tables.new) }
+    ensures maps { HasMaps tables.new }
     ensures running { stopped tables.new ≡ stopped tables.old }
 {
     results_of_known_numbers_keep_the_rules();
@@ -45,7 +47,9 @@ fn set_end<D: Disk>(tables: &mut Tables<D>, end: End)
 
 fn set_ends<D: Disk>(tables: &mut Tables<D>, ends: &[End])
     requires rules { RulesHold tables.old.clusters (tables_now tables.old) }
+    requires maps { HasMaps tables.old }
     ensures rules { RulesHold tables.new.clusters (tables_now tables.new) }
+    ensures maps { HasMaps tables.new }
     ensures running { stopped tables.new ≡ stopped tables.old }
 {
     for end in ends {
@@ -55,6 +59,7 @@ fn set_ends<D: Disk>(tables: &mut Tables<D>, ends: &[End])
 
 fn commit_ends<D: Disk>(tables: &mut Tables<D>, ends: &[End]) -> Result<(), Fault>
     requires rules { RulesHold tables.old.clusters (tables_now tables.old) }
+    requires maps { HasMaps tables.old }
     requires running { stopped tables.old ≡ false }
 {
     set_ends(tables, ends);
@@ -100,6 +105,7 @@ fn commit_settings<D: Disk>(
     settings: Settings,
 ) -> Result<(), Fault>
     requires rules { RulesHold tables.old.clusters (tables_now tables.old) }
+    requires maps { HasMaps tables.old }
     requires running { stopped tables.old ≡ false }
 {
     if !settings_hold(&settings) {

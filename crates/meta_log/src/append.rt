@@ -37,6 +37,7 @@ impl<D: Disk> MetaLog<D> {
         ensures stopped { OnErr result (self.new.stopped ≡ true) }
         ensures runs { OnOk result (self.new.stopped ≡ false) }
         ensures later { (state_of self.old).faults ≤ (state_of self.new).faults }
+        ensures tells { (state_of self.new).tells ≡ (state_of self.old).tells }
         ensures moment { (state_of self.old).moment ≤ (state_of self.new).moment }
         ensures same { D.is_same self.old.disk self.new.disk }
     {

@@ -54,6 +54,7 @@ impl<D: Disk> MetaLog<D> {
         ensures refused { OnErr result (IsErrOf result Worn ⊎ IsErrOf result Failed) }
         ensures runs { OnOk result (self.new.stopped ≡ false) }
         ensures later { (state_of self.old).faults ≤ (state_of self.new).faults }
+        ensures tells { (state_of self.new).tells ≡ (state_of self.old).tells }
         ensures moment { (state_of self.old).moment ≤ (state_of self.new).moment }
         ensures same { D.is_same self.old.disk self.new.disk }
     {

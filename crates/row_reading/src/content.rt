@@ -1,6 +1,7 @@
 // The bytes of containers are read.
 ghost use Rattle.std.specs.Prelude.{◌≡◌, ◌≤◌, ◌<◌, ◌+◌, ◌*◌, ◌-◌, ℕ, length, take, Some, IfOk, OnOk, OnErr, IsTrue, ◌↔◌};
 ghost use Rattle.std.specs.FinMap.{find};
+ghost use Rattle.volume_inside.specs.declared.chunk_rules.TheConstants.{MOST_PAGES};
 ghost use Rattle.vdisk.specs.Causes.{Rose};
 ghost use Rattle.vdisk.specs.Ranges.{part};
 ghost use Rattle.table_records.specs.Keys.{pair_cmp};
@@ -35,7 +36,7 @@ fn run_at<D: ChunkDisk>(disk: &D, container: u64, index: u32, most: u32) -> Run
     requires content { HasContent (D.chunks disk.now) (D.image disk.now) container }
     requires used { CLUSTER_BYTES * index < used_of (D.chunks disk.now).containers container }
     requires some { 1 ≤ most }
-    requires few { index + most ≤ 4096 }
+    requires few { index + most ≤ MOST_PAGES }
     ensures some { 1 ≤ result.count }
     ensures most { result.count ≤ most }
     ensures beside { AreBeside (D.chunks disk.now) container index result.first result.count }

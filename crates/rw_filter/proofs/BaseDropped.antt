@@ -37,7 +37,7 @@ module _ (n : ℕ) (t : Typed) (image : List ℕ) (rules : RulesHold n t) (id : 
         short = holds.short;
         cover = record { within = omega arith; no_map = λ none. refl; no_cover = λ none. refl };
       })
-      (λ some. absurd (some refl)) refl
+      (λ some. absurd (some refl))
       (each_weaker (ExtentHolds n t.files) (λ k e. k.0 ≡ id → 4096 * k.1 + e.valid ≤ was.length) t.extents
       (λ k e one same. subst (λ (o : Option FileRecord). LiesIn k e o)
       (ap (λ (x : ℕ). find nat_cmp x t.files) same ∙ found) one.in_file) rules.extents)

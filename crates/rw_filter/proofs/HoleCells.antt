@@ -21,6 +21,7 @@ use Rattle.volume_files.specs.Own.{covered_in}
 use Rattle.volume_files.specs.Reads.{byte_at}
 use Rattle.volume_files.proofs.Owned.{cell_byte, find-blocks, own_at}
 use Rattle.rw_filter.specs.Holes.{IsHole}
+use Rattle.rw_filter.specs.Cells.{HasCells, IsFirstLoss}
 use Rattle.rw_filter.specs.Own.{is_own, HasBase, HasOwn, KeepsOthers, IsFirstHole}
 use Rattle.rw_filter.proofs.Alike.{covered_own, behind_own}
 use Rattle.rw_filter.proofs.Losses.{none_lost, first_lost, all_bytes}
@@ -66,7 +67,7 @@ within_to at n p is = elim (cases_lt p (at + n)) [
 is_within_at : (at n p : ℕ) → at ≤ p → p < at + n → is_within at n p ≡ true
 is_within_at at n p from to = grind (arith, nat_tests)
 
-not_both : (f : Cell) (b : ℕ) → f ≡ Byte b → f ≡ Lost → ⊥
+pub not_both : (f : Cell) (b : ℕ) → f ≡ Byte b → f ≡ Lost → ⊥
 not_both f b byte lost = let clash : Byte b ≡ Lost = sym byte ∙ lost in cc
 
 module _ (t : Typed) (image : List ℕ) (id at n : ℕ) (file : FileRecord) (is : find nat_cmp id t.files ≡ Some file)
@@ -79,16 +80,32 @@ module _ (t : Typed) (image : List ℕ) (id at n : ℕ) (file : FileRecord) (is 
 
   module _ (first second : List ℕ) (base : HasBase t here id file at n first)
       (own : HasOwn t here id file at n second) (kept : KeepsOthers t id at n first second) where
-    each_read : (k : ℕ) → k < n → cell here id file (at + k) ≡ Byte (slice_index second k)
+    pub each_read : (k : ℕ) → k < n → cell here id file (at + k) ≡ Byte (slice_index second k)
     each_read k low = by (is_own t id (at + k)) refl
       where
         by : (b : Bool) → is_own t id (at + k) ≡ b → cell here id file (at + k) ≡ Byte (slice_index second k)
         by true mine = own k low mine
         by false other = base k low other ∙ ap Byte (sym (kept k low other))
 
-    pub bytes_read : length second ≡ n → second ≡ bytes_of (take n (drop at (file_cells here id)))
+  -- the first lost cell that the base has to give is the first of all: no other is lost
+  pub first_loss : (q : ℕ) → IsFirstHole t here id file at n q → IsFirstLoss here id file at (at + n) q
+  first_loss q found = record {
+    behind = found.behind;
+    within = found.within;
+    lost = found.lost;
+    before = λ p low high lost. by p low high lost (is_own t id p) refl;
+  }
+    where
+      by : (p : ℕ) → at ≤ p → p < q → cell here id file p ≡ Lost → (b : Bool) → is_own t id p ≡ b → ⊥
+      by p low high lost true mine =
+          not_both (cell here id file p) (byte_at here id p)
+          (cell_byte here id p file (own_at t image id file is p (own_of t id p mine))) lost
+      by p low high lost false other = found.before p low high other lost
+
+  module _ (out : List ℕ) (read : HasCells here id file at n out) where
+    pub bytes_read : length out ≡ n → out ≡ bytes_of (take n (drop at (file_cells here id)))
     bytes_read long =
-        all_bytes (cell here id file) file.length at n fits second long each_read
+        all_bytes (cell here id file) file.length at n fits out long read
         ∙ ap (λ (cs : Cells). bytes_of (take n (drop at cs))) (sym whole_file)
 
     pub none_lost_there : lost_where (is_within at n) 0 (file_cells here id) ≡ None
@@ -99,10 +116,10 @@ module _ (t : Typed) (image : List ℕ) (id at n : ℕ) (file : FileRecord) (is 
         let from = within_from at n p test in
         let to = within_to at n p test in
         let place : at + (p - at) ≡ p = omega (arith, from) in
-        not_both (cell here id file p) (slice_index second (p - at))
-        (ap (cell here id file) (sym place) ∙ each_read (p - at) (omega (arith, from, to))) lost)
+        not_both (cell here id file p) (slice_index out (p - at))
+        (ap (cell here id file) (sym place) ∙ read (p - at) (omega (arith, from, to))) lost)
 
-  pub first_lost_there : (q : ℕ) → IsFirstHole t here id file at n q
+  pub first_lost_there : (q : ℕ) → IsFirstLoss here id file at (at + n) q
       → lost_where (is_within at n) 0 (file_cells here id) ≡ Some q
   first_lost_there q found =
       ap (lost_where (is_within at n) 0) whole_file
@@ -110,13 +127,7 @@ module _ (t : Typed) (image : List ℕ) (id at n : ℕ) (file : FileRecord) (is 
       (let to = found.within in omega (arith, to, fits))
       (is_within_at at n q found.behind found.within)
       found.lost
-      (λ p low high test lost. by p high test lost (is_own t id p) refl)
-    where
-      by : (p : ℕ) → p < q → is_within at n p ≡ true → cell here id file p ≡ Lost → (b : Bool) → is_own t id p ≡ b → ⊥
-      by p high test lost true mine =
-          not_both (cell here id file p) (byte_at here id p)
-          (cell_byte here id p file (own_at t image id file is p (own_of t id p mine))) lost
-      by p high test lost false other = found.before p (within_from at n p test) high other lost
+      (λ p low high test lost. found.before p (within_from at n p test) high lost)
 
 -- ---- what the reading of a base tells
 

@@ -4,3 +4,10 @@ mod OwnRead
 mod Losses
 mod HoleCells
 mod BaseDropped
+mod Recalled
+mod RecallReplies
+mod RecallDone
+mod Parts
+mod HolePart
+mod Around
+mod Replies

@@ -1,3 +1,6 @@
 pub mod Own
 pub mod Holes
+pub mod Cells
+pub mod Beside
 pub mod Filters
+pub mod Recalling

@@ -10,6 +10,7 @@ ghost use Rattle.volume_inside.specs.Typed.{Typed};
 ghost use Rattle.volume_inside.specs.View.{file_cells};
 ghost use Rattle.volume_tables.specs.Tables.{tables_now, inside_now, disk_of, clusters_in, IsTables};
 ghost use Rattle.volume_tables.specs.Reads.{ReadsOnly};
+ghost use Rattle.rw_filter.specs.Cells.{HasCells, IsFirstLoss};
 ghost use Rattle.rw_filter.specs.Own.{HasBase, IsFirstHole};
 
 use crate::holes::Holes;
@@ -53,6 +54,30 @@ fn read_covered<D: Disk>(
     }
 }
 
+/// Reads bytes of a file with this record, from a place in it on: those of its extents, else of its base, else zeros. A
+/// refusal stops nothing, and after it `out` may hold anything.
+pub(crate) fn read_found<D: Disk>(
+    tables: &mut Tables<D>,
+    file: u64,
+    found: FileRecord,
+    at: u64,
+    out: &mut [u8],
+) -> Result<(), Fault>
+    requires rules { RulesHold (clusters_in tables.old) (tables_now tables.old) }
+    requires there { find nat_cmp file (tables_now tables.old).files ≡ Some found }
+    requires within { at + length out.old ≤ found.length }
+    ensures cells { (stored : Typed) → IsTables tables.old stored → OnOk result
+        (HasCells (inside_now tables.old) file found at (length out.old) out.new) }
+    ensures damaged { (stored : Typed) → IsTables tables.old stored → (q : ℕ) → IsErrOf result (Fault.Damaged q) →
+        IsFirstLoss (inside_now tables.old) file found at (at + length out.old) q }
+    ensures reads { ReadsOnly tables.old tables.new }
+    ensures refused { OnErr result (((q : ℕ) × IsErrOf result (Fault.Damaged q)) ⊎ (IsErrOf result Fault.Failed ×
+        Rose (disk_of tables.old).faults (disk_of tables.new).faults)) }
+{
+    read_covered(tables, file, found, at, out)?;
+    read_own(tables, file, found, at, out)
+}
+
 /// Reads bytes of a file that is there, from a place in it on: those of its extents, else of its base, else zeros. A
 /// refusal stops nothing, and after it `out` may hold anything. It takes no memory. Each copy of a chunk or a map is
 /// hashed once at most.
@@ -78,6 +103,5 @@ pub fn read_file<D: Disk>(
         Rose (disk_of tables.old).faults (disk_of tables.new).faults)) }
 {
     let found = tables.get_file(file).unwrap();
-    read_covered(tables, file, found, at, out)?;
-    read_own(tables, file, found, at, out)
+    read_found(tables, file, found, at, out)
 }

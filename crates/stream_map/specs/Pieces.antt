@@ -1,5 +1,6 @@
 -- The entries that bytes spell, and the pieces of a file that they stand for: piece after piece, from offset 0 on.
 use Rattle.std.specs.Prelude.{ℕ, zero, suc, ◌≡◌, ◌<◌, ◌+◌, ◌-◌, ◌/◌, ◌^◌, List, [], ◌∷◌, ◌++◌, length, drop, Option, Some, None, nat_lt, if◌then◌else◌}
+use Rattle.stream_map.specs.declared.limits.TheConstants.{ENTRY_BYTES}
 use Rattle.stream_map.specs.declared.entry.Entry.{Entry}
 use Rattle.stream_map.specs.Entries.{bytes_of, entry_of}
 
@@ -15,11 +16,11 @@ spell (entry ∷ entries) = bytes_of entry ++ spell entries
 -- the first n entries that bytes spell
 abbrev pub first_entries : ℕ → List ℕ → List Entry
 first_entries zero bytes = []
-first_entries (suc n) bytes = entry_of bytes ∷ first_entries n (drop 12 bytes)
+first_entries (suc n) bytes = entry_of bytes ∷ first_entries n (drop ENTRY_BYTES bytes)
 
 -- the entries that bytes spell; what is left at the end and is no whole entry counts for nothing
 abbrev pub entries_in : List ℕ → List Entry
-entries_in bytes = first_entries (length bytes / 12) bytes
+entries_in bytes = first_entries (length bytes / ENTRY_BYTES) bytes
 
 -- the bytes of the file that entries cover; of the entries before a piece, the offset at which it begins
 abbrev pub total_length : List Entry → ℕ

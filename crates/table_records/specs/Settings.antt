@@ -1,6 +1,7 @@
 -- The bytes of the settings, and the settings that bytes spell.
 use Rattle.std.specs.Prelude.{◌+◌, ◌-◌, ◌^◌, ◌≤◌, ◌<◌, ◌||◌, ℕ, zero, suc, Bool, true, false, List, [], ◌∷◌, ◌++◌, length, get_or, take, drop, Option, Some, None, nat_lt, is_some, if◌then◌else◌}
 use Rattle.std.specs.Option.{unwrap_or}
+use Rattle.table_records.specs.declared.limits.TheConstants.{MOST_LIST_BYTES}
 use Rattle.byteorder.specs.Endian.{big_bytes, big_number}
 use Rattle.table_records.specs.declared.settings.Settings.{Settings}
 use Rattle.table_records.specs.Texts.{list_bytes}
@@ -63,7 +64,7 @@ texts_in (suc n) room b =
 
 -- texts behind their count, which take at most 8,192 bytes
 abbrev pub counted_in : List ℕ → Read (List (List ℕ))
-counted_in b = if nat_lt (length b) 2 then None else texts_in (big_number 2 b) 8192 (drop 2 b)
+counted_in b = if nat_lt (length b) 2 then None else texts_in (big_number 2 b) MOST_LIST_BYTES (drop 2 b)
 
 -- what is read, where nothing stands behind it
 abbrev pub nothing_behind : {A : Type 0} → Read A → Option A

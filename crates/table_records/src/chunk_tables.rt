@@ -1,6 +1,7 @@
 //! The tables of chunks: rows, the places of their copies, containers and the clusters of these.
 
 ghost use Rattle.std.specs.Prelude.{◌≡◌, ◌≤◌, ◌<◌, ◌^◌, ◌++◌, ◌∷◌, length, take, drop, refl};
+ghost use Rattle.table_records.specs.declared.limits.TheConstants.{MOST_VALUE_BYTES};
 ghost use Rattle.byteorder.specs.Endian.{big_bytes};
 ghost use Rattle.table_records.specs.Values.{row_in, row_bytes, container_bytes};
 ghost use Rattle.table_records.specs.Tables.{row_codec, place_codec, container_codec, cluster_codec, is_followed};
@@ -18,7 +19,7 @@ pub struct RowTable;
 
 /// Spells a row at the front of `out`.
 fn put_row(out: &mut [u8], row: Row)
-    requires { 64 ≤ length out.old }
+    requires { MOST_VALUE_BYTES ≤ length out.old }
     ensures spelled { out.new ≡ row_bytes row ++ drop 50 out.old }
     ensures size { length (row_bytes row) ≡ 50 }
     ensures back { row_in (row_bytes row) ≡ row }
@@ -146,7 +147,7 @@ pub struct ContainerTable;
 
 /// Spells a container at the front of `out`.
 fn put_container(out: &mut [u8], container: Container)
-    requires { 64 ≤ length out.old }
+    requires { MOST_VALUE_BYTES ≤ length out.old }
     ensures { out.new ≡ container_bytes container ++ drop 5 out.old }
 {
     out[0] = container.kind;

@@ -1,6 +1,7 @@
 //! Lists of texts as the settings hold them: a count of two bytes, and each text behind its length of two bytes.
 
 ghost use Rattle.std.specs.Prelude.{◌≡◌, ◌≤◌, ◌<◌, ◌^◌, ◌++◌, length, IfOk, OnOk, option_map};
+ghost use Rattle.table_records.specs.declared.limits.TheConstants.{MOST_LIST_BYTES};
 ghost use Rattle.byteorder.specs.Endian.{big_bytes};
 ghost use Rattle.table_records.specs.Settings.{text_bytes, texts_bytes, counted_bytes, texts_in, counted_in, rest_of, fitting_size, read_to, IsWithin};
 
@@ -24,7 +25,7 @@ pub fn skip_counted(bytes: &[u8]) -> Option<&[u8]>
 }
 
 fn skip_texts(bytes: &[u8], count: u16) -> Option<&[u8]>
-    ensures { option_map (λ rest. rest.now) result ≡ rest_of (texts_in count 8192 bytes.now) }
+    ensures { option_map (λ rest. rest.now) result ≡ rest_of (texts_in count MOST_LIST_BYTES bytes.now) }
 {
     let mut place = 0;
     let mut room = MOST_LIST_BYTES;
@@ -68,7 +69,7 @@ pub fn read_counted(alloc: Global, bytes: &[u8]) -> Result<Option<List>, Memory>
 
 fn read_texts(alloc: Global, bytes: &[u8], count: u16) -> Result<Option<List>, Memory>
     ensures within { IfOk result (λ list. IsWithin bytes.now list) }
-    ensures read { IfOk result (λ list. read_to bytes.now list ≡ texts_in count 8192 bytes.now) }
+    ensures read { IfOk result (λ list. read_to bytes.now list ≡ texts_in count MOST_LIST_BYTES bytes.now) }
 {
     let mut place = 0;
     let mut texts = Texts::new(alloc);

@@ -1,6 +1,8 @@
 //! The table of names.
 
 ghost use Rattle.std.specs.Prelude.{◌≡◌, ◌≤◌, ◌+◌, ◌++◌, ◌∷◌, IsTrue, length, take, drop, Some, option_map};
+ghost use Rattle.table_records.specs.declared.limits.TheConstants.{MOST_NAME_KEY_BYTES, MOST_VALUE_BYTES};
+ghost use Rattle.groundwork.specs.declared.limits.TheConstants.{MOST_NAME_BYTES};
 ghost use Rattle.table_records.specs.Tables.{name_codec};
 
 use crate::numbers::u64_at;
@@ -18,8 +20,8 @@ impl NameTable {
     /// [`MOST_NAME_BYTES`](crate::MOST_NAME_BYTES), and `out` needs
     /// [`MOST_NAME_KEY_BYTES`](crate::MOST_NAME_KEY_BYTES).
     pub fn write_key(name: &[u8], out: &mut [u8]) -> usize
-        requires room { 256 ≤ length out.old }
-        requires short { length name.now ≤ 255 }
+        requires room { MOST_NAME_KEY_BYTES ≤ length out.old }
+        requires short { length name.now ≤ MOST_NAME_BYTES }
         ensures size { result ≡ length name.now + 1 }
         ensures spelled { name_codec.read_key (take result out.new) ≡ Some name.now }
     {
@@ -40,8 +42,8 @@ impl NameTable {
 
     /// Spells the id of a file at the front of `out`, and answers how many bytes it has: eight.
     pub fn write_value(id: u64, out: &mut [u8]) -> usize
-        requires { 64 ≤ length out.old }
-        ensures short { result ≤ 64 }
+        requires { MOST_VALUE_BYTES ≤ length out.old }
+        ensures short { result ≤ MOST_VALUE_BYTES }
         ensures whole { IsTrue (name_codec.is_value (take result out.new)) }
         ensures spelled { name_codec.read_value (take result out.new) ≡ id }
     {
@@ -65,8 +67,8 @@ impl NameTable {
 }
 
 fn put_name(out: &mut [u8], name: &[u8])
-    requires room { 256 ≤ length out.old }
-    requires short { length name.now ≤ 255 }
+    requires room { MOST_NAME_KEY_BYTES ≤ length out.old }
+    requires short { length name.now ≤ MOST_NAME_BYTES }
     ensures { out.new ≡ (2 ∷ name.now) ++ drop (length name.now + 1) out.old }
 {
     out[0] = NameTable::NUMBER;

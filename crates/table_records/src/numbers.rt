@@ -1,6 +1,7 @@
 //! Numbers at places of bytes, and keys of numbers.
 
 ghost use Rattle.std.specs.Prelude.{◌≡◌, ◌≤◌, ◌+◌, ◌++◌, ◌∷◌, length, take, drop, Some};
+ghost use Rattle.table_records.specs.declared.limits.TheConstants.{MOST_VALUE_BYTES};
 ghost use Rattle.byteorder.specs.Endian.{big_bytes};
 ghost use Rattle.table_records.specs.Keys.{number_key, pair_key};
 ghost use Rattle.table_records.specs.Values.{number_at, digest_at as digest_in};
@@ -8,7 +9,7 @@ ghost use Rattle.table_records.specs.Values.{number_at, digest_at as digest_in};
 use byteorder::{BigEndian, ByteOrder};
 
 pub fn u8_at(bytes: &[u8], place: usize) -> u8
-    requires { place ≤ 64 }
+    requires { place ≤ MOST_VALUE_BYTES }
     ensures { result ≡ number_at 1 place bytes.now }
 {
     if bytes.len() < place + 1 {
@@ -18,7 +19,7 @@ pub fn u8_at(bytes: &[u8], place: usize) -> u8
 }
 
 pub fn u16_at(bytes: &[u8], place: usize) -> u16
-    requires { place ≤ 64 }
+    requires { place ≤ MOST_VALUE_BYTES }
     ensures { result ≡ number_at 2 place bytes.now }
 {
     if bytes.len() < place + 2 {
@@ -28,7 +29,7 @@ pub fn u16_at(bytes: &[u8], place: usize) -> u16
 }
 
 pub fn u32_at(bytes: &[u8], place: usize) -> u32
-    requires { place ≤ 64 }
+    requires { place ≤ MOST_VALUE_BYTES }
     ensures { result ≡ number_at 4 place bytes.now }
 {
     if bytes.len() < place + 4 {
@@ -38,7 +39,7 @@ pub fn u32_at(bytes: &[u8], place: usize) -> u32
 }
 
 pub fn u64_at(bytes: &[u8], place: usize) -> u64
-    requires { place ≤ 64 }
+    requires { place ≤ MOST_VALUE_BYTES }
     ensures { result ≡ number_at 8 place bytes.now }
 {
     if bytes.len() < place + 8 {
@@ -106,7 +107,7 @@ pub fn put_copy_key(out: &mut [u8], table: u8, id: u64, copy: u8)
 
 /// The digest at a place, or zeros where the bytes end before.
 pub fn digest_at(bytes: &[u8], place: usize) -> [u8; 32]
-    requires { place ≤ 64 }
+    requires { place ≤ MOST_VALUE_BYTES }
     ensures { result ≡ digest_in place bytes.now }
 {
     let mut digest = [0u8; 32];

@@ -1,6 +1,7 @@
 //! How the keys and values of a table are spelled.
 
 ghost use Rattle.std.specs.Prelude.{◌≡◌, ◌≤◌, ◌<◌, ℕ, IsTrue, length, take, Some};
+ghost use Rattle.table_records.specs.declared.limits.TheConstants.{MOST_KEY_BYTES, MOST_VALUE_BYTES};
 ghost use Rattle.table_records.specs.Codecs.{Codec};
 
 /// A table whose keys and values have few bytes: a key at most 32, a value at most 64. All numbers are big-endian,
@@ -20,8 +21,8 @@ pub trait Table {
     /// Spells a key at the front of `out`, and answers how many bytes it has. `out` needs
     /// [`MOST_KEY_BYTES`](crate::MOST_KEY_BYTES).
     fn write_key(key: Self::Key, out: &mut [u8]) -> usize
-        requires { 32 ≤ length out.old }
-        ensures short { result ≤ 32 }
+        requires { MOST_KEY_BYTES ≤ length out.old }
+        ensures short { result ≤ MOST_KEY_BYTES }
         ensures spelled { codec.read_key (take result out.new) ≡ Some key };
 
     /// The key that bytes spell, or None where they are no key of this table.
@@ -31,8 +32,8 @@ pub trait Table {
     /// Spells a value at the front of `out`, and answers how many bytes it has. `out` needs
     /// [`MOST_VALUE_BYTES`](crate::MOST_VALUE_BYTES).
     fn write_value(value: Self::Value, out: &mut [u8]) -> usize
-        requires { 64 ≤ length out.old }
-        ensures short { result ≤ 64 }
+        requires { MOST_VALUE_BYTES ≤ length out.old }
+        ensures short { result ≤ MOST_VALUE_BYTES }
         ensures whole { IsTrue (codec.is_value (take result out.new)) }
         ensures spelled { codec.read_value (take result out.new) ≡ value };
 

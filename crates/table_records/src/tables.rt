@@ -1,6 +1,7 @@
 //! The tables whose keys and values have few bytes.
 
 ghost use Rattle.std.specs.Prelude.{◌≡◌, ◌≤◌, length, take, refl};
+ghost use Rattle.table_records.specs.declared.limits.TheConstants.{MOST_VALUE_BYTES};
 ghost use Rattle.table_records.specs.Values.{result_in};
 ghost use Rattle.table_records.specs.Tables.{volume_codec, file_codec, extent_codec, result_codec, is_followed};
 
@@ -152,7 +153,7 @@ impl Table for ExtentTable {
 }
 
 fn put_result(out: &mut [u8], second: u64, number: u8)
-    requires { 64 ≤ length out.old }
+    requires { MOST_VALUE_BYTES ≤ length out.old }
     ensures { result_in (take 9 out.new) ≡ record { second = second; result = number } }
 {
     BigEndian::write_u64(out, second);

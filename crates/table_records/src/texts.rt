@@ -1,6 +1,7 @@
 //! Lists of texts.
 
-ghost use Rattle.std.specs.Prelude.{◌≡◌, ◌≤◌, ◌<◌, ◌+◌, ◌++◌, ◌∷◌, ◌↔◌, [], length, slice_index_or, OnOk, OnErr, IsErrOf};
+ghost use Rattle.std.specs.Prelude.{◌≡◌, ◌≤◌, ◌<◌, ◌+◌, ◌*◌, ◌++◌, ◌∷◌, ◌↔◌, [], length, slice_index_or, OnOk, OnErr, IsErrOf};
+ghost use Rattle.table_records.specs.declared.limits.TheConstants.{MOST_LIST_BYTES};
 ghost use Rattle.table_records.specs.Texts.{list_bytes};
 
 use crate::Memory;
@@ -34,13 +35,14 @@ pub struct Texts {
 
 impl Model for Texts {
     ghost use Rattle.std.specs.Prelude.{◌≡◌, ◌≤◌, ℕ, List};
+    ghost use Rattle.table_records.specs.declared.limits.TheConstants.{MOST_LIST_BYTES};
     ghost use Rattle.table_records.specs.Texts.{list_bytes};
 
     ghost Value = { List (List ℕ) };
 
     ghost view = { λ a. a.texts.items };
 
-    ghost invariant = { λ a. (a.taken ≡ list_bytes a.texts.items) × (list_bytes a.texts.items ≤ 8192) };
+    ghost invariant = { λ a. (a.taken ≡ list_bytes a.texts.items) × (list_bytes a.texts.items ≤ MOST_LIST_BYTES) };
 }
 
 /// Why a text was not taken.
@@ -68,7 +70,7 @@ impl Texts {
     /// How many texts there are.
     pub fn count(&self) -> usize
         ensures count { result ≡ length self.now }
-        ensures most { result ≤ 4096 }
+        ensures most { 2 * result ≤ MOST_LIST_BYTES }
     {
         self.texts.len()
     }
@@ -76,7 +78,7 @@ impl Texts {
     /// The bytes that the texts take, each with its length.
     pub fn byte_count(&self) -> usize
         ensures sum { result ≡ list_bytes self.now }
-        ensures most { result ≤ 8192 }
+        ensures most { result ≤ MOST_LIST_BYTES }
     {
         self.taken
     }
@@ -85,7 +87,7 @@ impl Texts {
     pub fn at(&self, place: usize) -> &[u8]
         requires { place < length self.now }
         ensures text { result.now ≡ slice_index_or self.now place [] }
-        ensures short { length result.now ≤ 8190 }
+        ensures short { length result.now + 2 ≤ MOST_LIST_BYTES }
     {
         &self.texts[place].bytes
     }
@@ -95,7 +97,7 @@ impl Texts {
     pub fn push(&mut self, text: &[u8]) -> Result<(), TextsFault>
         ensures taken { OnOk result (self.new ≡ self.old ++ text.now ∷ []) }
         ensures refused { OnErr result (self.new ≡ self.old) }
-        ensures full { IsErrOf result TextsFault.Full ↔ (8192 < list_bytes self.old + (length text.now + 2)) }
+        ensures full { IsErrOf result TextsFault.Full ↔ (MOST_LIST_BYTES < list_bytes self.old + (length text.now + 2)) }
     {
         if text.len() > MOST_LIST_BYTES || self.taken + 2 + text.len() > MOST_LIST_BYTES {
             return Err(TextsFault::Full);
@@ -108,7 +110,7 @@ impl Texts {
 
     /// Adds a copy of a text that fits, or leaves the list as it was.
     pub fn push_fitting(&mut self, text: &[u8]) -> Result<(), Memory>
-        requires { list_bytes self.old + (length text.now + 2) ≤ 8192 }
+        requires { list_bytes self.old + (length text.now + 2) ≤ MOST_LIST_BYTES }
         ensures taken { OnOk result (self.new ≡ self.old ++ text.now ∷ []) }
         ensures refused { OnErr result (self.new ≡ self.old) }
     {

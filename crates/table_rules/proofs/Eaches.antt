@@ -26,16 +26,6 @@ module _ {K V : Type 0} (c : Codec K V) (P : K → V → Type 0) where
       ] each in
       (both.0, pairs_of_each m both.1)
 
--- both of two rules hold of each entry, just where each of the rules does
-module _ {K V : Type 0} (P Q : K → V → Type 0) where
-  pub each_both : (es : List (K × V)) → Each (λ k v. P k v × Q k v) es → Each P es × Each Q es
-  each_both [] each = (tt, tt)
-  each_both (e ∷ es) each = (let rest = each_both es each.1 in ((each.0.0, rest.0), (each.0.1, rest.1)))
-
-  pub both_each : (es : List (K × V)) → Each P es × Each Q es → Each (λ k v. P k v × Q k v) es
-  both_each [] each = tt
-  both_each (e ∷ es) each = ((each.0.0, each.1.0), both_each es (each.0.1, each.1.1))
-
 pub spelled_of_pairs : (m : Map) → Each IsWellFormed m → AllWellFormed m
 spelled_of_pairs [] all = tt
 spelled_of_pairs (e ∷ m) all = (all.0, spelled_of_pairs m all.1)

@@ -1,13 +1,6 @@
 -- What a rule on the entries of a table is for a pair of the map.
 use Rattle.std.specs.Prelude.{ℕ, List, Option, Some, None}
 use Rattle.table_records.specs.Codecs.{Codec}
-use Rattle.table_records.specs.declared.records.FileRecord.{FileRecord}
-use Rattle.volume_inside.specs.ChunkRules.{HasNoBase}
-use Rattle.volume_inside.specs.Rules.{FileHolds}
-
--- a file meets its rule, where this id is drawn next, and has no base
-abbrev pub IsBareFile : ℕ → ℕ → FileRecord → Type 0
-IsBareFile next id file = FileHolds next id file × HasNoBase id file
 
 module _ {K V : Type 0} (c : Codec K V) (P : K → V → Type 0) where
   abbrev pub HoldsOf : Option K → List ℕ → Type 0

@@ -12,7 +12,7 @@ ghost use Rattle.table_rules.specs.Marks.{IsFilled};
 
 use crate::chunks::{containers_hold, places_hold, redirects_hold, rows_hold};
 use crate::clusters::mark_clusters;
-use crate::entries::{extents_hold, files_hold};
+use crate::entries::{extents_hold, files_hold, map_rows_hold};
 use crate::fault::TableFault;
 use crate::named::names_hold;
 use crate::pairs::all_well_formed;
@@ -61,6 +61,9 @@ pub fn check(alloc: Global, clusters: u32, map: &ByteMap) -> Result<Checked, Tab
     }
     if !files_hold(map, records.next_id) {
         return Err(TableFault::Broken(3));
+    }
+    if !map_rows_hold(map) {
+        return Err(TableFault::Broken(4));
     }
     if !extents_hold(map, clusters) {
         return Err(TableFault::Broken(5));

@@ -53,7 +53,7 @@ use Rattle.volume_files.specs.Needs.{one_if_none, touched, first_touched}
 use Rattle.volume_files.specs.Lengths.{for_file, length_of}
 use Rattle.volume_files.specs.Writing.{write_wants}
 use Rattle.volume_core.specs.Bounds.{files_bytes, touched_by, named_by, HasSpent, IsSpent}
-use Rattle.volume_core.specs.Volumes.{clusters_in, view_now}
+use Rattle.volume_core.specs.Volumes.{tables_of, clusters_in, view_now}
 use Rattle.volume_core.specs.Wants.{wants_of}
 use Rattle.volume_core.specs.declared.volume.Volume.{Volume as Mounted}
 use Rattle.volume_core.proofs.Told.{file_of, tables_want, wants_told}
@@ -145,25 +145,25 @@ missing_most t file first (suc n) =
 -- ---- what is spent
 
 module _ {D : Type 0} {d : Ghosts D} (v : Mounted D d) (b i : ℕ) (has : HasSpent v b i) where
-  view_bytes : files_bytes (view_now v) ≡ name_bytes (tables_now v.tables).names + 38 * length
-      (tables_now v.tables).names
+  view_bytes : files_bytes (view_now v) ≡ name_bytes (tables_now (tables_of v)).names + 38 * length
+      (tables_now (tables_of v)).names
   unfolding view
-  view_bytes = shown_bytes (inside_now v.tables) (tables_now v.tables).names
+  view_bytes = shown_bytes (inside_now (tables_of v)) (tables_now (tables_of v)).names
 
-  checkpoint_most : checkpoint_of v.tables ≤ 151 + (files_bytes (view_now v) + 24 * b)
+  checkpoint_most : checkpoint_of (tables_of v) ≤ 151 + (files_bytes (view_now v) + 24 * b)
   checkpoint_most =
-      let told = (measured (log_now v.tables.log) v.tables.contents.spelled).1 in
-      let one : length (typed volume_codec (log_now v.tables.log)) ≡ 1 =
-      ap (λ (es : List (Unit {0} × VolumeRecord)). length es) v.tables.contents.volume in
-      let four : length (typed result_codec (log_now v.tables.log)) ≡ 4 =
-      ap (λ (es : List (JobKind × ResultRecord)). length es) v.tables.contents.ends_there in
-      let settings : setting_bytes (typed settings_codec (log_now v.tables.log)) ≡ 24 =
+      let told = (measured (log_now (tables_of v).log) (tables_of v).contents.spelled).1 in
+      let one : length (typed volume_codec (log_now (tables_of v).log)) ≡ 1 =
+      ap (λ (es : List (Unit {0} × VolumeRecord)). length es) (tables_of v).contents.volume in
+      let four : length (typed result_codec (log_now (tables_of v).log)) ≡ 4 =
+      ap (λ (es : List (JobKind × ResultRecord)). length es) (tables_of v).contents.ends_there in
+      let settings : setting_bytes (typed settings_codec (log_now (tables_of v).log)) ≡ 24 =
       ap (λ (p : Aside). setting_bytes p.0) has.same in
-      let chunks : chunk_bytes (tables_now v.tables).chunks ≡ 0 = ap (λ (p : Aside). chunk_bytes p.1) has.same in
-      let files : length (typed file_codec (log_now v.tables.log)) ≤ length (typed name_codec (log_now v.tables.log)) =
-      files_named (typed file_codec (log_now v.tables.log)) (typed name_codec (log_now v.tables.log))
-      (sorted_typed file_codec (log_now v.tables.log) (as_true v.tables.contents.sorted)) v.sound.rules.names.once in
-      let clusters = clusters_count (tables_now v.tables) in
+      let chunks : chunk_bytes (tables_now (tables_of v)).chunks ≡ 0 = ap (λ (p : Aside). chunk_bytes p.1) has.same in
+      let files : length (typed file_codec (log_now (tables_of v).log)) ≤ length (typed name_codec (log_now (tables_of v).log)) =
+      files_named (typed file_codec (log_now (tables_of v).log)) (typed name_codec (log_now (tables_of v).log))
+      (sorted_typed file_codec (log_now (tables_of v).log) (as_true (tables_of v).contents.sorted)) v.sound.rules.names.once in
+      let clusters = clusters_count (tables_now (tables_of v)) in
       omega (
         arith,
         told,
@@ -178,20 +178,20 @@ module _ {D : Type 0} {d : Ghosts D} (v : Mounted D d) (b i : ℕ) (has : HasSpe
       )
 
   -- a commit is refused as worn only where the last epoch is taken
-  pub worn_late : would_wear v.tables ≡ true → last_epoch ≤ i + 2
+  pub worn_late : would_wear (tables_of v) ≡ true → last_epoch ≤ i + 2
   worn_late wears =
-      by v.tables.worn refl
-      (passes_half (half_bytes (clusters_in v)) (log_place v.tables.log) (due_of v.tables))
-      (nat_eq (log_epoch v.tables.log) last_epoch) refl wears
+      by (tables_of v).worn refl
+      (passes_half (half_bytes (clusters_in v)) (log_place (tables_of v).log) (due_of (tables_of v)))
+      (nat_eq (log_epoch (tables_of v).log) last_epoch) refl wears
     where
-      by : (was : Bool) → v.tables.worn ≡ was → (turns last : Bool) → nat_eq (log_epoch v.tables.log) last_epoch ≡ last
+      by : (was : Bool) → (tables_of v).worn ≡ was → (turns last : Bool) → nat_eq (log_epoch (tables_of v).log) last_epoch ≡ last
           → (was || (turns && last)) ≡ true → last_epoch ≤ i + 2
       by true is turns last at wears = has.worn is
       by false is turns last at wears =
-          let same = eqb-true (log_epoch v.tables.log) last_epoch (at ∙ second_is turns last wears) in
+          let same = eqb-true (log_epoch (tables_of v).log) last_epoch (at ∙ second_is turns last wears) in
           omega (arith, same, has.epochs)
 
-  used_up : would_wear v.tables ≡ true → 2 ^ 48 - 2 ≤ i
+  used_up : would_wear (tables_of v) ≡ true → 2 ^ 48 - 2 ≤ i
   used_up wears = let late = worn_late wears in omega (arith, late)
 
   first_told : (P : Fault → Type 0) (ids full few wears : Bool) (need free : ℕ) (fault : Fault) → (ids ≡ true → P Worn)
@@ -211,17 +211,17 @@ module _ {D : Type 0} {d : Ghosts D} (v : Mounted D d) (b i : ℕ) (has : HasSpe
       absurd (let clash : None ≡ Some fault = is in cc)
 
   told : (call : Call) (n : Needs) → n.grows ≤ named_by call + 24 * touched_by call → n.clusters ≤ touched_by call
-      → (fault : Fault) → wanting v.tables n ≡ Some fault → IsSpent v b i call fault
+      → (fault : Fault) → wanting (tables_of v) n ≡ Some fault → IsSpent v b i call fault
   told call n grows clusters fault is =
-      first_told (IsSpent v b i call) (n.draws && nat_eq (next_id_of (tables_now v.tables)) last_id)
-      (nat_lt (half_bytes (clusters_in v)) (checkpoint_of v.tables + n.grows)) (nat_lt (free_of v.tables) n.clusters)
-      (not (has_room v.tables n) && would_wear v.tables) n.clusters (free_of v.tables) fault
-      (λ ids. let last = eqb-true (next_id_of (tables_now v.tables)) last_id (second_is n.draws _ ids) in omega
+      first_told (IsSpent v b i call) (n.draws && nat_eq (next_id_of (tables_now (tables_of v))) last_id)
+      (nat_lt (half_bytes (clusters_in v)) (checkpoint_of (tables_of v) + n.grows)) (nat_lt (free_of (tables_of v)) n.clusters)
+      (not (has_room (tables_of v) n) && would_wear (tables_of v)) n.clusters (free_of (tables_of v)) fault
+      (λ ids. let last = eqb-true (next_id_of (tables_now (tables_of v))) last_id (second_is n.draws _ ids) in omega
       (arith, last, has.ids))
-      (λ full. let past = ltb-true (half_bytes (clusters_in v)) (checkpoint_of v.tables + n.grows) full in omega
+      (λ full. let past = ltb-true (half_bytes (clusters_in v)) (checkpoint_of (tables_of v) + n.grows) full in omega
       (arith, past, grows, checkpoint_most))
-      (λ few. let less = ltb-true (free_of v.tables) n.clusters few in omega (arith, less, clusters, has.clusters))
-      (λ wears. used_up (second_is (not (has_room v.tables n)) (would_wear v.tables) wears))
+      (λ few. let less = ltb-true (free_of (tables_of v)) n.clusters few in omega (arith, less, clusters, has.clusters))
+      (λ wears. used_up (second_is (not (has_room (tables_of v) n)) (would_wear (tables_of v)) wears))
       is
 
   of_file : (o : Option ℕ) (want : ℕ → Option Fault) (fault : Fault) (P : Type 0)
@@ -230,31 +230,31 @@ module _ {D : Type 0} {d : Ghosts D} (v : Mounted D d) (b i : ℕ) (has : HasSpe
   of_file (Some id) want fault P use_it is = use_it id is
 
   of_write : (name : List ℕ) (at : ℕ) (bytes : List ℕ) (fault : Fault) (id : ℕ)
-      → write_wants v.tables id at bytes ≡ Some fault → IsSpent v b i (Write name at bytes) fault
+      → write_wants (tables_of v) id at bytes ≡ Some fault → IsSpent v b i (Write name at bytes) fault
   of_write name at [] fault id is = absurd (let clash : None ≡ Some fault = is in cc)
   of_write name at (x ∷ bytes) fault id is =
-      let most = missing_most (tables_now v.tables) id (first_touched at) (touched at (length (x ∷ bytes))) in
-      told (Write name at (x ∷ bytes)) (write_needs (tables_now v.tables) id at (length (x ∷ bytes)))
+      let most = missing_most (tables_now (tables_of v)) id (first_touched at) (touched at (length (x ∷ bytes))) in
+      told (Write name at (x ∷ bytes)) (write_needs (tables_now (tables_of v)) id at (length (x ∷ bytes)))
       (omega (arith, most)) (omega arith) fault is
 
-  spent_by : (call : Call) (fault : Fault) → tables_want v.tables call ≡ Some fault → IsSpent v b i call fault
+  spent_by : (call : Call) (fault : Fault) → tables_want (tables_of v) call ≡ Some fault → IsSpent v b i call fault
   spent_by (Create name) fault is = told (Create name) (create_needs name) (omega arith) (omega arith) fault is
   spent_by (Write name at bytes) fault is =
-      of_file (file_of v.tables name) (λ id. write_wants v.tables id at bytes) fault
+      of_file (file_of (tables_of v) name) (λ id. write_wants (tables_of v) id at bytes) fault
       (IsSpent v b i (Write name at bytes) fault) (λ id. of_write name at bytes fault id) is
   spent_by (SetLength name len) fault is =
-      of_file (file_of v.tables name)
-      (λ id. wanting v.tables (length_needs (tables_now v.tables) id (length_of (tables_now v.tables) id) len))
+      of_file (file_of (tables_of v) name)
+      (λ id. wanting (tables_of v) (length_needs (tables_now (tables_of v)) id (length_of (tables_now (tables_of v)) id) len))
       fault
       (IsSpent v b i (SetLength name len) fault)
       (λ id want. told (SetLength name len)
-      (length_needs (tables_now v.tables) id (length_of (tables_now v.tables) id) len) (omega arith)
+      (length_needs (tables_now (tables_of v)) id (length_of (tables_now (tables_of v)) id) len) (omega arith)
       (omega arith) fault want) is
   spent_by (Rename from to) fault is = told (Rename from to) (rename_needs from to) (omega arith) (omega arith) fault is
   spent_by (Delete name) fault is = told (Delete name) (delete_needs name) (omega arith) (omega arith) fault is
-  spent_by Flush fault is = flushed (would_wear v.tables) refl is
+  spent_by Flush fault is = flushed (would_wear (tables_of v)) refl is
     where
-      flushed : (w : Bool) → would_wear v.tables ≡ w → cond w (Some Worn) None ≡ Some fault
+      flushed : (w : Bool) → would_wear (tables_of v) ≡ w → cond w (Some Worn) None ≡ Some fault
           → IsSpent v b i Flush fault
       flushed true wears want =
           subst (IsSpent v b i Flush) (some_same Worn fault want) (used_up wears)
@@ -265,4 +265,4 @@ module _ {D : Type 0} {d : Ghosts D} (v : Mounted D d) (b i : ℕ) (has : HasSpe
   spent_by (Next after) fault is = absurd (let clash : None ≡ Some fault = is in cc)
 
   pub spent : (call : Call) (fault : Fault) → wants_of v call ≡ Some fault → IsSpent v b i call fault
-  spent call fault is = spent_by call fault (sym (wants_told v call) ∙ is)
+  spent call fault is = spent_by call fault (sym (wants_told (tables_of v) v.sound call) ∙ is)

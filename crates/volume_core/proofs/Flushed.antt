@@ -17,13 +17,13 @@ use Rattle.volume_inside.specs.Shows.{Area, Kept}
 use Rattle.volume_inside.specs.Typed.{Typed}
 use Rattle.volume_tables.specs.Wants.{IsReplied, reply_of}
 use Rattle.cluster_space.specs.States.{free_in, deferred_in}
-use Rattle.volume_tables.specs.Tables.{tables_now, states_of, disk_of, area_of, clusters_in, stopped}
+use Rattle.volume_tables.specs.Tables.{tables_now, inside_now, states_of, disk_of, area_of, clusters_in, stopped}
 use Rattle.volume_tables.specs.Tables.{IsTables}
 use Rattle.volume_tables.specs.declared.tables.Tables.{Tables}
 use Rattle.volume_tables.proofs.Leaving.{area_same}
 use Rattle.volume_tables.specs.Sound.{IsSound, IsKept}
 use Rattle.volume_core.specs.Wants.{IsWant}
-use Rattle.volume_tables.proofs.Mapped.{rules_have_maps}
+use Rattle.volume_tables.proofs.Mapped.{maps_same}
 
 -- the reply to a flush, where it is known when a commit is refused
 pub flush_reply : (v : Volume) (wears : Bool) (before now : ℕ) (r : Result (Unit {0}) Fault)
@@ -89,14 +89,15 @@ module _ {D : Type 0} {d : Ghosts D} (a b : Tables D d) where
 
   -- tables that are the same are as sound
   pub sound_still : IsSound a → clusters_in b ≡ clusters_in a → tables_now b ≡ tables_now a
+      → inside_now b ≡ inside_now a → (disk_of b).tells ≡ (disk_of a).tells
       → (stopped b ≡ false → free_in (states_of b) + deferred_in (states_of b)
       ≡ free_in (states_of a) + deferred_in (states_of a)) → (stopped b ≡ false → stopped a ≡ false) → IsSound b
-  sound_still sound clusters now counts ran =
+  sound_still sound clusters now inside tells counts ran =
       let rules : RulesHold (clusters_in b) (tables_now b) =
       subst (λ (p : ℕ × Typed). RulesHold p.0 p.1) (λ i. (sym clusters i, sym now i)) sound.rules in
       record {
         rules = rules;
-        maps = rules_have_maps b rules;
+        maps = maps_same a b tells inside sound.maps;
         counted = λ runs. subst
             (λ (p : ℕ × Typed). free_in (states_of b) + deferred_in (states_of b) + length (clusters_of p.1)
             ≡ data_clusters p.0)

@@ -4,7 +4,6 @@ pub mod Causes
 pub mod Flushed
 pub mod Opened
 pub mod Answered
-pub mod Bare
 pub mod Listed
 pub mod Read
 pub mod Hashed
@@ -12,6 +11,7 @@ pub mod Written
 pub mod Bounds
 pub mod Adding
 pub mod Told
+pub mod Lent
 pub mod Waiting
 pub mod Unfound
 pub mod Unlost

@@ -31,7 +31,7 @@ use Rattle.volume_tables.specs.Reads.{ReadsOnly}
 use Rattle.volume_tables.specs.Sound.{Endures, IsSpared, Spares}
 use Rattle.volume_files.specs.Insides.{of_id, id_written}
 use Rattle.volume_core.specs.Bounds.{changed_by}
-use Rattle.volume_core.specs.Moves.{Moves, inside_done, inside_after, pending_done, pending_worn}
+use Rattle.volume_core.specs.Moves.{Moves, inside_done, inside_after, pending_done, pending_worn, pending_lost}
 use Rattle.volume_core.specs.Moves.{state_done, state_refused, state_after, is_told}
 use Rattle.volume_core.specs.States.{VolumeState, state_at, wears_at}
 use Rattle.volume_core.proofs.Waiting.{Waits}
@@ -59,15 +59,18 @@ failed_reply r is = λ i. done_reply (is i)
 -- ---- states
 
 refused_leaves : (call : Call) (fault : Fault) (s : VolumeState) → pending_worn call s ≡ s.pending
-    → state_refused call fault s ≡ s
-refused_leaves call Worn s worn = λ i. record { clusters = s.clusters; inside = s.inside; pending = worn i }
-refused_leaves call other s worn = refl
+    → pending_lost call s ≡ s.pending → state_refused call fault s ≡ s
+refused_leaves call Worn s worn lost = λ i. record { clusters = s.clusters; inside = s.inside; pending = worn i }
+refused_leaves call (Damaged place) s worn lost =
+    λ i. record { clusters = s.clusters; inside = s.inside; pending = lost i }
+refused_leaves call other s worn lost = refl
 
--- a call that leaves the state where it is answered, and where it is refused as worn, leaves it whatever it replies
+-- a call that leaves the state where it is answered, and where it is refused as worn or because a cell is lost, leaves it
+-- whatever it replies
 pub after_leaves : (call : Call) (given : Reply) (s : VolumeState) → state_done call s ≡ s
-    → pending_worn call s ≡ s.pending → state_after call given s ≡ s
-after_leaves call (reply.Refused fault) s done worn = refused_leaves call fault s worn
-after_leaves call other s done worn = done
+    → pending_worn call s ≡ s.pending → pending_lost call s ≡ s.pending → state_after call given s ≡ s
+after_leaves call (reply.Refused fault) s done worn lost = refused_leaves call fault s worn lost
+after_leaves call other s done worn lost = done
 
 -- where a file is not found the state stays
 pub unfound_leaves : (call : Call) (s : VolumeState) (o : Option (List Cell)) (unlawful : Bool) (fault : Fault)
@@ -104,31 +107,34 @@ module _ {D : Type 0} {d : Ghosts D} where
     -- what a refusal leaves of a state
     told_refused : (fault : Fault) → inside_now u ≡ inside_now t
         → (fault ≡ Worn → pending_of u ≡ pending_worn call (state_at t))
-        → ((place : ℕ) → fault ≡ Damaged place → ⊥) → IsSpared epoch_of fault t u
+        → ((place : ℕ) → fault ≡ Damaged place → pending_of u ≡ pending_lost call (state_at t))
+        → IsSpared epoch_of fault t u
         → is_told (reply.Refused fault) ≡ true → state_at u ≡ state_refused call fault (state_at t)
-    told_refused Worn inside worn whole is told =
+    told_refused Worn inside worn lost is told =
         let waits = worn refl in λ i. record { clusters = clusters i; inside = inside i; pending = waits i }
-    told_refused BadName inside worn whole is told = ap state_at is
-    told_refused NoFile inside worn whole is told = ap state_at is
-    told_refused Exists inside worn whole is told = ap state_at is
-    told_refused (OutsideFile length) inside worn whole is told = ap state_at is
-    told_refused (TooLarge most) inside worn whole is told = ap state_at is
-    told_refused TableFull inside worn whole is told = ap state_at is
-    told_refused (Full asked left) inside worn whole is told = ap state_at is
-    told_refused Failed inside worn whole is told = absurd (false≢true told)
-    told_refused (Damaged place) inside worn whole is told = absurd (whole place refl)
-    told_refused Memory inside worn whole is told = absurd (false≢true told)
+    told_refused BadName inside worn lost is told = ap state_at is
+    told_refused NoFile inside worn lost is told = ap state_at is
+    told_refused Exists inside worn lost is told = ap state_at is
+    told_refused (OutsideFile length) inside worn lost is told = ap state_at is
+    told_refused (TooLarge most) inside worn lost is told = ap state_at is
+    told_refused TableFull inside worn lost is told = ap state_at is
+    told_refused (Full asked left) inside worn lost is told = ap state_at is
+    told_refused Failed inside worn lost is told = absurd (false≢true told)
+    told_refused (Damaged place) inside worn lost is told =
+        let waits = lost place refl in λ i. record { clusters = clusters i; inside = inside i; pending = waits i }
+    told_refused Memory inside worn lost is told = absurd (false≢true told)
 
     -- what a call with its result leaves of a state
     pub told_done : (r : Result (Unit {0}) Fault) → OnOk r (inside_now u ≡ inside_done call (inside_now t))
         → OnErr r (inside_now u ≡ inside_now t) → OnOk r (pending_of u ≡ pending_done call (state_at t))
         → (IsErrOf r Worn → pending_of u ≡ pending_worn call (state_at t))
-        → ((place : ℕ) → IsErrOf r (Damaged place) → ⊥) → Spares t u r → is_told (done_reply r) ≡ true
+        → ((place : ℕ) → IsErrOf r (Damaged place) → pending_of u ≡ pending_lost call (state_at t)) → Spares t u r
+        → is_told (done_reply r) ≡ true
         → state_at u ≡ state_after call (done_reply r) (state_at t)
-    told_done (Ok done) ok err waits worn whole spares told =
+    told_done (Ok done) ok err waits worn lost spares told =
         λ i. record { clusters = clusters i; inside = ok i; pending = waits i }
-    told_done (Err fault) ok err waits worn whole spares told =
-        told_refused fault err (λ is. worn (ap Err is)) (λ place is. whole place (ap Err is)) (spares fault refl) told
+    told_done (Err fault) ok err waits worn lost spares told =
+        told_refused fault err (λ is. worn (ap Err is)) (λ place is. lost place (ap Err is)) (spares fault refl) told
 
   -- what only reads leaves the state, whole
   read_state : (t u : Tables D d) → ReadsOnly t u → state_at u ≡ state_at t
@@ -174,20 +180,22 @@ module _ {D : Type 0} {d : Ghosts D} where
     -- a call on the files that changes, with its result
     pub changes_move : (r : Result (Unit {0}) Fault) → changed_by call ≡ 1
         → OnOk r (inside_now u ≡ inside_done call (inside_now t)) → OnErr r (inside_now u ≡ inside_now t)
-        → Waits t u call r → ((place : ℕ) → IsErrOf r (Damaged place) → ⊥)
+        → Waits t u call r
+        → ((place : ℕ) → IsErrOf r (Damaged place) → pending_of u ≡ pending_lost call (state_at t))
         → Endures t u → (stopped u ≡ true → IsErrOf r Failed) → Spares t u r
         → Moves call (done_reply r) (state_at t) (state_at u)
-    changes_move r one ok err waits whole endures stops spares =
-        moves r one (told_done call t u endures.clusters r ok err waits.done waits.worn whole spares)
+    changes_move r one ok err waits lost endures stops spares =
+        moves r one (told_done call t u endures.clusters r ok err waits.done waits.worn lost spares)
         (done_after call r (inside_now t) (inside_now u) ok err) endures.clusters
         (λ is. failed_reply r (stops is)) endures.stands
         (λ runs. let rise = endures.epoch runs in omega (arith, rise, one))
 
     -- a call that only reads
     pub reads_move : (given : Reply) → state_done call (state_at t) ≡ state_at t
-        → pending_worn call (state_at t) ≡ pending_of t → ReadsOnly t u → Moves call given (state_at t) (state_at u)
-    reads_move given done worn reads = record {
-      told = λ told. same ∙ sym (after_leaves call given (state_at t) done worn);
+        → pending_worn call (state_at t) ≡ pending_of t → pending_lost call (state_at t) ≡ pending_of t
+        → ReadsOnly t u → Moves call given (state_at t) (state_at u)
+    reads_move given done worn lost reads = record {
+      told = λ told. same ∙ sym (after_leaves call given (state_at t) done worn lost);
       inside = ap (λ (s : VolumeState). s.inside) same
           ∙ sym (after_none call given (inside_now t) (ap (λ (s : VolumeState). s.inside) done));
       clusters = let l = reads.leaves in l.clusters;
@@ -215,7 +223,8 @@ module _ {D : Type 0} {d : Ghosts D} where
 
   -- a call that only reads, before it read anything
   pub stays_move : (t : Tables D d) (call : Call) (given : Reply) → state_done call (state_at t) ≡ state_at t
-      → pending_worn call (state_at t) ≡ pending_of t → Moves call given (state_at t) (state_at t)
-  stays_move t call given done worn =
-      still_moves t call given (after_leaves call given (state_at t) done worn)
+      → pending_worn call (state_at t) ≡ pending_of t → pending_lost call (state_at t) ≡ pending_of t
+      → Moves call given (state_at t) (state_at t)
+  stays_move t call given done worn lost =
+      still_moves t call given (after_leaves call given (state_at t) done worn lost)
       (after_none call given (inside_now t) (ap (λ (s : VolumeState). s.inside) done))

@@ -18,23 +18,22 @@ use Rattle.volume_tables.specs.Sizes.{tables_bytes}
 use Rattle.volume_tables.specs.Mount.{read_meta}
 use Rattle.volume_tables.specs.Mounted.{IsOpened}
 use Rattle.volume_tables.specs.Tables.{tables_now, inside_now, view_now, states_of, disk_of, clusters_in}
-use Rattle.volume_tables.specs.Tables.{IsToldBy}
+use Rattle.volume_tables.specs.Tables.{IsToldBy, HasMaps}
 use Rattle.volume_tables.specs.declared.tables.Tables.{Tables}
 use Rattle.volume_tables.specs.Sound.{IsSound}
 use Rattle.volume_core.specs.States.{state_at, left_in, IsStateOf, IsFreshState}
 use Rattle.volume_core.proofs.Counted.{filled_counts, filled_deferred}
 use Rattle.volume_core.proofs.Settled.{settled_pending, told_pending}
-use Rattle.volume_tables.proofs.Mapped.{rules_have_maps}
 
 fresh_view : (image : List ℕ) → view (inside_at fresh_tables image) ≡ []
 unfolding view
 fresh_view image = refl
 
 module _ {D : Type 0} {d : Ghosts D} (t : Tables D d) where
-  pub found_sound : IsOpened t → IsSound t
-  found_sound opened = record {
+  pub found_sound : IsOpened t → HasMaps t → IsSound t
+  found_sound opened maps = record {
     rules = opened.rules;
-    maps = rules_have_maps t opened.rules;
+    maps = maps;
     counted = λ runs. filled_counts (clusters_in t) (clusters_of (tables_now t)) (states_of t)
         (rules_data (clusters_in t) (tables_now t) opened.rules) opened.rules.clusters opened.space;
   }
@@ -42,9 +41,9 @@ module _ {D : Type 0} {d : Ghosts D} (t : Tables D d) where
   pub shows_no_file : tables_now t ≡ fresh_tables → view_now t ≡ []
   shows_no_file now = ap (λ (q : Typed). view (inside_at q (disk_of t).image)) now ∙ fresh_view (disk_of t).image
 
-module _ {D : Type 0} {d : Ghosts D} (t : Tables D d) (opened : IsOpened t) where
+module _ {D : Type 0} {d : Ghosts D} (t : Tables D d) (opened : IsOpened t) (maps : HasMaps t) where
   opened_pending : pending_of t ≡ settled (log_epoch t.log) (log_place t.log) (left_in (state_at t))
-  opened_pending = settled_pending t (found_sound t opened) opened.runs opened.fresh opened.due
+  opened_pending = settled_pending t (found_sound t opened maps) opened.runs opened.fresh opened.due
       (filled_deferred (clusters_in t) (clusters_of (tables_now t)) (states_of t)
       (rules_data (clusters_in t) (tables_now t) opened.rules) opened.rules.clusters opened.space)
 

@@ -16,6 +16,7 @@ use Rattle.volume_core.proofs.Flushed.{sound_still}
 module _ {D : Type 0} {d : Ghosts D} (a b : Tables D d) (reads : ReadsOnly a b) where
   pub read_sound : IsSound a → IsSound b
   read_sound sound = sound_still a b sound (let l = reads.leaves in l.clusters) reads.now
+      (λ i. inside_at (reads.now i) (reads.image i)) (let l = reads.leaves in l.tells)
       (λ runs. ap (λ (xs : List State). free_in xs + deferred_in xs) reads.states) (λ runs. sym reads.running ∙ runs)
 
   pub read_view : view_now b ≡ view_now a

@@ -5,7 +5,7 @@ use Rattle.std.specs.Prelude.{zero, suc, length, Option, Some, None, IsSome, ref
 use Rattle.std.specs.FinMap.{find}
 use Rattle.std.specs.Option.{option_map}
 use Rattle.std.specs.Ordering.{eq_by_cmp}
-use Rattle.std.proofs.Common.{ap, sym, ◌∙◌, subst, arith, length-append, length-take}
+use Rattle.std.proofs.Common.{inl, inr, ⊎_elim, ap, sym, ◌∙◌, subst, arith, length-append, length-take}
 use Rattle.vdisk.specs.Ranges.{length-part}
 use Rattle.vdisk.specs.declared.disk.Disk.{Ghosts}
 use Rattle.byte_map.specs.Words.{bytes_cmp}
@@ -34,20 +34,20 @@ use Rattle.volume_inside.specs.Rules.{next_id_of, ExtentHolds}
 use Rattle.volume_inside.specs.Typed.{Typed, FileBlock}
 use Rattle.volume_tables.specs.Log.{log_now}
 use Rattle.volume_tables.specs.Sizes.{tables_bytes}
-use Rattle.volume_tables.specs.Tables.{tables_now, inside_now, checkpoint_of, would_wear, disk_of, clusters_in}
+use Rattle.volume_tables.specs.Tables.{tables_now, inside_now, checkpoint_of, would_wear, disk_of, clusters_in, view_now}
+use Rattle.volume_tables.specs.Sound.{IsSound}
 use Rattle.volume_tables.specs.declared.tables.Tables.{Tables}
 use Rattle.volume_tables.proofs.Measured.{measured}
 use Rattle.volume_tables.specs.Wants.{Needs, wanting, has_room, free_of, last_id, IsReplied, IsRepliedOrMemory}
 use Rattle.volume_files.specs.Lengths.{for_file, length_of, length_wants}
 use Rattle.volume_files.specs.Needs.{create_needs, rename_needs, delete_needs, write_needs, length_needs}
 use Rattle.volume_files.specs.Needs.{missing, one_if_none, names_more, first_touched, touched}
-use Rattle.volume_files.specs.Writing.{write_wants, ReadsFirst}
+use Rattle.volume_files.specs.Writing.{write_wants}
+use Rattle.rw_filter.specs.Beside.{ReadsBeside}
 use Rattle.volume_core.specs.States.{extents_told, tables_told, left_in, wanting_in, write_wants_in, length_wants_in}
-use Rattle.volume_core.specs.States.{state_at, state_of}
-use Rattle.volume_core.specs.Volumes.{view_now}
+use Rattle.volume_core.specs.States.{state_at, wants_in}
 use Rattle.volume_core.specs.Moves.{ReadsABlock}
-use Rattle.volume_core.specs.Wants.{wants_of, IsWant}
-use Rattle.volume_core.specs.declared.volume.Volume.{Volume as Mounted}
+use Rattle.volume_core.specs.Wants.{IsWant}
 
 -- ---- extents that are told by their blocks
 
@@ -195,16 +195,14 @@ module _ {D : Type 0} {d : Ghosts D} where
   left_told t = ap (λ (n : ℕ). data_clusters (clusters_in t) - n)
       (clusters_count (tables_now t) (disk_of t).image)
 
-  module _ (v : Mounted D d) where
-    pub sized : Each (IsSized (disk_of v.tables).image) (tables_now v.tables).extents
+  module _ (t : Tables D d) (sound : IsSound t) where
+    pub sized : Each (IsSized (disk_of t).image) (tables_now t).extents
     sized =
-        let t = v.tables in
         each_weaker (ExtentHolds (clusters_in t) (tables_now t).files) (IsSized (disk_of t).image) (tables_now t).extents
-        (lawful_sized (clusters_in v.tables) (tables_now t) (disk_of t).image t.size) v.sound.rules.extents
+        (lawful_sized (clusters_in t) (tables_now t) (disk_of t).image t.size) sound.rules.extents
 
-    pub checkpoint_told : tables_bytes (tables_told (inside_now v.tables)) ≡ checkpoint_of v.tables
+    pub checkpoint_told : tables_bytes (tables_told (inside_now t)) ≡ checkpoint_of t
     checkpoint_told =
-        let t = v.tables in
         let four : length (typed result_codec (log_now t.log)) ≡ 4 =
         ap (λ (es : List (JobKind × ResultRecord)). length es) t.contents.ends_there in
         omega (
@@ -216,36 +214,36 @@ module _ {D : Type 0} {d : Ghosts D} where
           pages_length (tables_now t).chunks.clusters,
         )
 
-    wanting_told : (n : Needs) → wanting_in (state_of v) n ≡ wanting v.tables n
+    wanting_told : (n : Needs) → wanting_in (state_at t) n ≡ wanting t n
     wanting_told n = λ i.
-        cond (n.draws && nat_eq (next_id_of (tables_now v.tables)) last_id) (Some Worn)
-        (cond (nat_lt (half_bytes (clusters_in v.tables)) (checkpoint_told i + n.grows)) (Some TableFull)
-        (cond (nat_lt (left_told v.tables i) n.clusters) (Some (Full n.clusters (left_told v.tables i)))
-        (cond (not (has_room v.tables n) && would_wear v.tables) (Some Worn) None)))
+        cond (n.draws && nat_eq (next_id_of (tables_now t)) last_id) (Some Worn)
+        (cond (nat_lt (half_bytes (clusters_in t)) (checkpoint_told i + n.grows)) (Some TableFull)
+        (cond (nat_lt (left_told t i) n.clusters) (Some (Full n.clusters (left_told t i)))
+        (cond (not (has_room t n) && would_wear t) (Some Worn) None)))
 
     write_wants_told : (file at : ℕ) (bytes : List ℕ)
-        → write_wants_in (state_of v) file at bytes ≡ write_wants v.tables file at bytes
+        → write_wants_in (state_at t) file at bytes ≡ write_wants t file at bytes
     write_wants_told file at [] = refl
     write_wants_told file at (b ∷ bytes) =
-        wanting_told (write_needs (tables_told (inside_now v.tables)) file at (length (b ∷ bytes)))
-        ∙ ap (wanting v.tables)
-        (write_told (tables_now v.tables) (disk_of v.tables).image sized file at (length (b ∷ bytes)))
+        wanting_told (write_needs (tables_told (inside_now t)) file at (length (b ∷ bytes)))
+        ∙ ap (wanting t)
+        (write_told (tables_now t) (disk_of t).image sized file at (length (b ∷ bytes)))
 
-    length_wants_told : (file len : ℕ) → length_wants_in (state_of v) file len
-        ≡ wanting v.tables (length_needs (tables_now v.tables) file (length_of (tables_now v.tables) file) len)
+    length_wants_told : (file len : ℕ) → length_wants_in (state_at t) file len
+        ≡ wanting t (length_needs (tables_now t) file (length_of (tables_now t) file) len)
     length_wants_told file len =
-        let old = length_of (tables_now v.tables) file in
-        wanting_told (length_needs (tables_told (inside_now v.tables)) file old len)
-        ∙ ap (wanting v.tables) (length_told (tables_now v.tables) (disk_of v.tables).image sized file old len)
+        let old = length_of (tables_now t) file in
+        wanting_told (length_needs (tables_told (inside_now t)) file old len)
+        ∙ ap (wanting t) (length_told (tables_now t) (disk_of t).image sized file old len)
 
     -- WHAT IS WANTING IS TOLD BY THE STATE
-    pub wants_told : (call : Call) → wants_of v call ≡ tables_want v.tables call
+    pub wants_told : (call : Call) → wants_in (state_at t) call ≡ tables_want t call
     wants_told (Create name) = wanting_told (create_needs name)
     wants_told (Write name at bytes) =
-        for_file_alike (file_of v.tables name) _ _
+        for_file_alike (file_of t name) _ _
         (λ file. write_wants_told file at bytes)
     wants_told (SetLength name len) =
-        for_file_alike (file_of v.tables name) _ _ (λ file. length_wants_told file len)
+        for_file_alike (file_of t name) _ _ (λ file. length_wants_told file len)
     wants_told (Rename from to) = wanting_told (rename_needs from to)
     wants_told (Delete name) = wanting_told (delete_needs name)
     wants_told Flush = refl
@@ -256,36 +254,35 @@ module _ {D : Type 0} {d : Ghosts D} where
 
     -- a reply by what the tables want is one by what the state wants
     pub replied_told : (call : Call) (before now : ℕ) (given : Reply)
-        → IsReplied (plain (view_now v) call) (tables_want v.tables call) before now given
-        → IsReplied (plain (view_now v) call) (wants_of v call) before now given
+        → IsReplied (plain (view_now t) call) (tables_want t call) before now given
+        → IsReplied (plain (view_now t) call) (wants_in (state_at t) call) before now given
     replied_told call before now given =
-        subst (λ (w : Option Fault). IsReplied (plain (view_now v) call) w before now given) (sym (wants_told call))
+        subst (λ (w : Option Fault). IsReplied (plain (view_now t) call) w before now given) (sym (wants_told call))
 
     pub replied_told_too : (call : Call) (before now : ℕ) (given : Reply)
-        → IsRepliedOrMemory (plain (view_now v) call) (tables_want v.tables call) before now given
-        → IsRepliedOrMemory (plain (view_now v) call) (wants_of v call) before now given
+        → IsRepliedOrMemory (plain (view_now t) call) (tables_want t call) before now given
+        → IsRepliedOrMemory (plain (view_now t) call) (wants_in (state_at t) call) before now given
     replied_told_too call before now given =
-        subst (λ (w : Option Fault). IsRepliedOrMemory (plain (view_now v) call) w before now given)
+        subst (λ (w : Option Fault). IsRepliedOrMemory (plain (view_now t) call) w before now given)
         (sym (wants_told call))
 
-    pub want_told : (call : Call) → IsWant call (tables_want v.tables call) → IsWant call (wants_of v call)
+    pub want_told : (call : Call) → IsWant call (tables_want t call) → IsWant call (wants_in (state_at t) call)
     want_told call = subst (λ (w : Option Fault). IsWant call w) (sym (wants_told call))
 
     -- a block that a write reads first is there in the inside too
-    pub reads_told : (name : List ℕ) (id at count : ℕ) → file_of v.tables name ≡ Some id
-        → ReadsFirst id at at count (tables_now v.tables) → ReadsABlock name at count (state_of v)
+    pub reads_told : (name : List ℕ) (id at count : ℕ) → file_of t name ≡ Some id
+        → ReadsBeside (tables_now t) id at count → ReadsABlock name at count (state_at t)
     reads_told name id at count named reads =
-        let is = reads.read in
         record {
           id = id;
           named = named;
           reads = record {
-            index = reads.index;
-            touched = reads.touched;
-            read = record {
-              unfilled = is.unfilled;
-              there = there_told (id, reads.index) (tables_now v.tables).extents (disk_of v.tables).image sized
-                  is.there;
-            };
+            place = reads.place;
+            beside = reads.beside;
+            below = reads.below;
+            there = ⊎_elim
+                (λ is. inl (there_told (id, reads.place / 4096) (tables_now t).extents (disk_of t).image sized is))
+                (λ covered. inr covered)
+                reads.there;
           };
         }

@@ -15,10 +15,8 @@ use Rattle.plain_volume.specs.declared.call.Fault.TheVariants.{BadName, NoFile, 
 use Rattle.plain_volume.specs.declared.call.Fault.TheVariants.{Memory}
 use Rattle.plain_volume.specs.declared.call.Reply.TheVariants as reply
 use Rattle.plain_volume.specs.declared.limits.TheConstants.{MOST_FILES, MOST_BYTES_OF_A_CALL, MOST_BYTES_OF_A_FILE}
-use Rattle.volume_inside.specs.Laws.{IsWhole}
 use Rattle.volume_tables.specs.Wants.{reply_of, IsRepliedOrMemory}
 use Rattle.volume_core.specs.Wants.{IsWant}
-use Rattle.volume_core.proofs.Written.{lost_beside_none}
 
 -- ---- what the plain machine refuses a call with
 
@@ -53,9 +51,10 @@ module _ (fault : Fault) (late : IsLate fault) where
   never_file None rest never is = late.none (cc)
   never_file (Some cells) rest never is = never cells is
 
-  never_lost : (o : Option ℕ) (rest : Outcome) → o ≡ None → Never rest → Never (unless_lost o rest)
-  never_lost None rest none never is = never is
-  never_lost (Some at) rest none never is = absurd (let clash : Some at ≡ None = none in cc)
+  never_lost : (o : Option ℕ) (rest : Outcome) → ((place : ℕ) → Damaged place ≡ fault → ⊥) → Never rest
+      → Never (unless_lost o rest)
+  never_lost None rest differs never is = never is
+  never_lost (Some place) rest differs never is = differs place (cc)
 
   module _ (v : Volume) (name : List ℕ) where
     of_file : (rest : List Cell → Outcome) → ((cells : List Cell) → Never (rest cells))
@@ -88,15 +87,16 @@ module _ (fault : Fault) (late : IsLate fault) where
         never_if (is_some (cells_of to v)) Exists (Ok (reply.Done, with_file to cells (without_file name v))) late.exists
         (never_done (with_file to cells (without_file name v))))))
 
-    never_write : (at : ℕ) (bytes : List ℕ) (cells : List Cell) → IsWhole cells → Never (write name at bytes v cells)
-    never_write at bytes cells whole =
+    never_write : (at : ℕ) (bytes : List ℕ) (cells : List Cell) → ((place : ℕ) → Damaged place ≡ fault → ⊥)
+        → Never (write name at bytes v cells)
+    never_write at bytes cells differs =
         never_if (nat_lt MOST_BYTES_OF_A_CALL (length bytes)) (TooLarge MOST_BYTES_OF_A_CALL)
         (write_within name at bytes v cells) (late.large MOST_BYTES_OF_A_CALL)
         (never_if (nat_lt MOST_BYTES_OF_A_FILE (at + length bytes)) (TooLarge MOST_BYTES_OF_A_FILE)
         (unless_lost (lost_beside at bytes cells) (Ok (reply.Done, with_file name (overwritten at bytes cells) v)))
         (late.large MOST_BYTES_OF_A_FILE)
         (never_lost (lost_beside at bytes cells) (Ok (reply.Done, with_file name (overwritten at bytes cells) v))
-        (lost_beside_none at bytes cells whole) (never_done (with_file name (overwritten at bytes cells) v))))
+        differs (never_done (with_file name (overwritten at bytes cells) v))))
 
   -- ---- what a call is refused with
 
@@ -131,7 +131,7 @@ module _ (v : Volume) (name : List ℕ) (before now : ℕ) (r : Result (Unit {0}
         never_refused (Damaged place) (damaged_late place) outcome want before now r never
         (want_differs call want place may) (λ is. cc) (λ is. cc)
 
-  -- no file has a lost cell, so no call that changes files meets one
+  -- no call that changes files but a write looks for a lost cell
   pub create_undamaged : (want : Option Fault) → IsWant (Create name) want
       → IsRepliedOrMemory (plain v (Create name)) want before now (done_reply r) → IsErrOf r (Damaged place) → ⊥
   create_undamaged want may =
@@ -154,17 +154,10 @@ module _ (v : Volume) (name : List ℕ) (before now : ℕ) (r : Result (Unit {0}
       undamaged (Rename name to) want may (plain v (Rename name to))
       (never_rename (Damaged place) (damaged_late place) v name to)
 
-  pub write_undamaged : (call : Call) (at : ℕ) (bytes : List ℕ) (cells : List Cell) (want : Option Fault)
-      → IsWhole cells → IsWant call want → IsRepliedOrMemory (write name at bytes v cells) want before now (done_reply r)
-      → IsErrOf r (Damaged place) → ⊥
-  write_undamaged call at bytes cells want whole may =
-      undamaged call want may (write name at bytes v cells)
-      (never_write (Damaged place) (damaged_late place) v name at bytes cells whole)
-
 -- a write that wants nothing is not refused as worn
 pub write_unworn : (v : Volume) (name : List ℕ) (at : ℕ) (bytes : List ℕ) (cells : List Cell) (before now : ℕ)
-    (r : Result (Unit {0}) Fault) → IsWhole cells
+    (r : Result (Unit {0}) Fault)
     → IsRepliedOrMemory (write name at bytes v cells) None before now (done_reply r) → IsErrOf r Worn → ⊥
-write_unworn v name at bytes cells before now r whole =
+write_unworn v name at bytes cells before now r =
     never_refused Worn worn_late (write name at bytes v cells) None before now r
-    (never_write Worn worn_late v name at bytes cells whole) (λ is. cc) (λ is. cc) (λ is. cc)
+    (never_write Worn worn_late v name at bytes cells (λ place is. cc)) (λ is. cc) (λ is. cc) (λ is. cc)

@@ -4,7 +4,7 @@ use Rattle.std.specs.Prelude.{None, Result, Ok, Err, OnOk, OnErr, refl}
 use Rattle.std.proofs.Common.{inl, inr, sym, ap, ◌∙◌, subst}
 use Rattle.vdisk.specs.declared.disk.Disk.{Ghosts}
 use Rattle.plain_volume.specs.declared.limits.TheConstants.{MOST_BYTES_OF_A_CALL, MOST_BYTES_OF_A_FILE}
-use Rattle.plain_volume.specs.Volume.{Cell, Volume, cells_of, is_lawful, with_file, overwritten, is_beside}
+use Rattle.plain_volume.specs.Volume.{Cell, Volume, cells_of, is_lawful, with_file, overwritten}
 use Rattle.plain_volume.specs.Step.{Outcome, plain, after, left_by, refuse_if, at_file, unless_lost, write}
 use Rattle.plain_volume.specs.Step.{write_within, write_whole, lost_beside}
 use Rattle.plain_volume.specs.Files.{RefusesFile}
@@ -16,7 +16,6 @@ use Rattle.plain_volume.specs.declared.call.Reply.{Reply}
 use Rattle.plain_volume.specs.declared.call.Reply.TheVariants as reply
 use Rattle.plain_volume.proofs.Own.{file_found}
 use Rattle.table_records.specs.declared.records.FileRecord.{FileRecord}
-use Rattle.volume_inside.specs.Laws.{IsWhole}
 use Rattle.volume_inside.specs.Typed.{Typed}
 use Rattle.volume_inside.specs.View.{file_cells, view}
 use Rattle.volume_inside.proofs.Names.{view_of_one_file}
@@ -30,7 +29,6 @@ use Rattle.volume_files.specs.Lengths.{for_file}
 use Rattle.volume_files.specs.Writing.{AreWritten, write_wants}
 use Rattle.volume_files.proofs.Found.{names_in_order}
 use Rattle.volume_core.proofs.Told.{file_of}
-use Rattle.volume_core.proofs.Answered.{file_is_whole}
 
 -- ---- outcomes
 
@@ -49,15 +47,17 @@ unfound_replied v name at bytes fault want before now refused = inl (
     (early_of name (cells_of name v) (not (is_lawful name)) fault (refused (λ cells. Err BadName))))
 
 -- an outcome that is an answer was not refused
-pub lost_beside_none : (at : ℕ) (bytes : List ℕ) (cells : List Cell) → IsWhole cells → lost_beside at bytes cells ≡ None
-lost_beside_none at [] cells whole = refl
-lost_beside_none at (b ∷ bytes) cells whole = whole (is_beside at (length (b ∷ bytes))) 0
-
 not_too_large : (b : Bool) (most : ℕ) (rest : Outcome) (want : Option Fault)
     → reply.Done ≡ reply_of (refuse_if b (TooLarge most) rest) want → refuse_if b (TooLarge most) rest ≡ rest
 not_too_large true most rest None is = absurd (cc)
 not_too_large true most rest (Some fault) is = absurd (cc)
 not_too_large false most rest want is = refl
+
+not_lost : (o : Option ℕ) (answer : Reply × Volume) (want : Option Fault)
+    → reply.Done ≡ reply_of (unless_lost o (Ok answer)) want → unless_lost o (Ok answer) ≡ Ok answer
+not_lost None answer want is = refl
+not_lost (Some place) answer None is = absurd (cc)
+not_lost (Some place) answer (Some fault) is = absurd (cc)
 
 pub was_done : (outcome : Outcome) (want : Option Fault) (before now : ℕ)
     → IsRepliedOrMemory outcome want before now reply.Done → reply.Done ≡ reply_of outcome want
@@ -65,8 +65,7 @@ was_done outcome want before now (inl (inl own)) = own
 was_done outcome want before now (inl (inr failed)) = absurd (let is = failed.0 in cc)
 was_done outcome want before now (inr memory) = absurd (cc)
 
-module _ (name : List ℕ) (at : ℕ) (bytes : List ℕ) (v : Volume) (cells : List Cell) (whole : IsWhole cells)
-    (want : Option Fault) where
+module _ (name : List ℕ) (at : ℕ) (bytes : List ℕ) (v : Volume) (cells : List Cell) (want : Option Fault) where
   -- what a write leaves that was done
   write_leaves : reply.Done ≡ reply_of (write name at bytes v cells) want
       → write name at bytes v cells ≡ Ok (reply.Done, with_file name (overwritten at bytes cells) v)
@@ -76,8 +75,8 @@ module _ (name : List ℕ) (at : ℕ) (bytes : List ℕ) (v : Volume) (cells : L
       let second = not_too_large (nat_lt MOST_BYTES_OF_A_FILE (at + length bytes)) MOST_BYTES_OF_A_FILE
       (write_whole name at bytes v cells) want (is ∙ ap (λ (o : Outcome). reply_of o want) first) in
       first ∙ (second
-      ∙ ap (λ (o : Option ℕ). unless_lost o (Ok (reply.Done, with_file name (overwritten at bytes cells) v)))
-      (lost_beside_none at bytes cells whole))
+      ∙ not_lost (lost_beside at bytes cells) (reply.Done, with_file name (overwritten at bytes cells) v) want
+      (is ∙ ap (λ (o : Outcome). reply_of o want) (first ∙ second)))
 
 names_stay : (file at : ℕ) (bytes : List ℕ) (old new : Typed) → AreWritten file at bytes old new → new.names ≡ old.names
 names_stay file at [] old new same = ap (λ (t : Typed). t.names) same
@@ -117,8 +116,7 @@ module _ {D : Type 0} {d : Ghosts D} (t u : Tables D d) (sound : IsSound t) (nam
       → OnErr r (inside_now u ≡ inside_now t)
       → view_now u ≡ after (view_now t) (Write name at bytes) (done_reply r)
   write_left before now (Ok done) replied written others same still =
-      let outcome = write_leaves name at bytes (view_now t) (file_cells (inside_now t) id)
-      (file_is_whole t sound name id file is) (write_wants t id at bytes)
+      let outcome = write_leaves name at bytes (view_now t) (file_cells (inside_now t) id) (write_wants t id at bytes)
       (was_done (write name at bytes (view_now t) (file_cells (inside_now t) id)) (write_wants t id at bytes) before now
       replied) in
       write_view written others same

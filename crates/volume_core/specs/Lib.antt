@@ -1,4 +1,5 @@
 pub mod Volumes
+pub mod Lending
 pub mod Wants
 pub mod Replies
 pub mod Sound

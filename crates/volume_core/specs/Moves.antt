@@ -5,7 +5,7 @@ use Rattle.plain_volume.specs.declared.call.Call.{Call}
 use Rattle.plain_volume.specs.declared.call.Call.TheVariants.{Create, Write, SetLength, Rename, Delete, Read, Digest}
 use Rattle.plain_volume.specs.declared.call.Call.TheVariants.{Stat, Next, Flush}
 use Rattle.plain_volume.specs.declared.call.Fault.{Fault}
-use Rattle.plain_volume.specs.declared.call.Fault.TheVariants.{Worn, Failed, Memory}
+use Rattle.plain_volume.specs.declared.call.Fault.TheVariants.{Worn, Failed, Damaged, Memory}
 use Rattle.plain_volume.specs.declared.call.Reply.{Reply}
 use Rattle.plain_volume.specs.declared.call.Reply.TheVariants as reply
 use Rattle.volume_inside.specs.Inside.{Inside}
@@ -14,9 +14,10 @@ use Rattle.volume_files.specs.Insides.{inside_created, inside_renamed, inside_de
 use Rattle.volume_files.specs.Lengths.{length_of}
 use Rattle.volume_files.specs.Needs.{create_needs, rename_needs, delete_needs, write_needs, length_needs}
 use Rattle.volume_files.specs.Needs.{create_bytes, rename_bytes, delete_bytes, write_bytes}
-use Rattle.volume_files.specs.Writing.{ReadsFirst}
+use Rattle.rw_filter.specs.Beside.{ReadsBeside}
 use Rattle.volume_core.specs.Bounds.{changed_by}
-use Rattle.volume_core.specs.States.{VolumeState, id_of_name, tables_told, wears_at, committed_in, done_in, worn_in}
+use Rattle.volume_core.specs.States.{VolumeState, id_of_name, tables_told, wears_at, committed_in, roomed_in}
+use Rattle.volume_core.specs.States.{done_in, worn_in}
 
 -- what an answered call leaves of an inside: a call that reads leaves all, and so does a flush
 abbrev pub inside_done : Call → Inside → Inside
@@ -77,15 +78,23 @@ pending_worn (Stat name) s = s.pending
 pending_worn (Next after) s = s.pending
 pending_worn call s = worn_out s.pending
 
+-- what waits after a call that was refused because a cell is lost: a write made room before it read, perhaps by a commit,
+-- and all other calls leave all
+abbrev pub pending_lost : Call → VolumeState → Pending
+pending_lost (Write name at bytes) s = of_file s (id_of_name s name)
+    (λ id. roomed_in s (write_needs (tables_told s.inside) id at (length bytes)))
+pending_lost call s = s.pending
+
 -- ---- states
 
 -- what an answered call leaves of a state
 abbrev pub state_done : Call → VolumeState → VolumeState
 state_done call s = record s { inside = inside_done call s.inside; pending = pending_done call s }
 
--- what a refused call leaves of a state: all, but for what waits where it was refused as worn
+-- what a refused call leaves of a state: all, but for what waits where it was refused as worn, or because a cell is lost
 abbrev pub state_refused : Call → Fault → VolumeState → VolumeState
 state_refused call Worn s = record s { pending = pending_worn call s }
+state_refused call (Damaged place) s = record s { pending = pending_lost call s }
 state_refused call fault s = s
 
 -- WHAT A CALL WITH ITS REPLY LEAVES OF A STATE: a call is a function of the state
@@ -116,4 +125,4 @@ pub record Moves (call : Call) (given : Reply) (old new : VolumeState) : Type 0 
 pub record ReadsABlock (name : List ℕ) (at count : ℕ) (s : VolumeState) : Type 0 where
   pub id : ℕ
   pub named : id_of_name s name ≡ Some id
-  pub reads : ReadsFirst id at at count (tables_told s.inside)
+  pub reads : ReadsBeside (tables_told s.inside) id at count

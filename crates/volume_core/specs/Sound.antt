@@ -14,8 +14,8 @@ use Rattle.volume_inside.specs.Typed.{Typed, FileBlock}
 use Rattle.volume_inside.specs.RuleProps.{each_prop, chunks_prop, maps_prop}
 use Rattle.volume_inside.specs.Lists.{IsOut, IsOnce}
 use Rattle.volume_inside.specs.Rules.{IsVolumeRecord, AreSettings, IsResultRecord, RecordsHold, NameHolds}
-use Rattle.volume_inside.specs.ChunkRules.{CoverHolds, HasNoBase, MapRowHolds}
-use Rattle.volume_inside.specs.Rules.{IsNamedOnce, NamesHold, FileHolds, FilesHold, MapRowsHold, AreBare, LiesIn, ExtentHolds}
+use Rattle.volume_inside.specs.ChunkRules.{CoverHolds, MapRowHolds}
+use Rattle.volume_inside.specs.Rules.{IsNamedOnce, NamesHold, FileHolds, FilesHold, MapRowsHold, LiesIn, ExtentHolds}
 use Rattle.volume_inside.specs.Rules.{ExtentsHold, RulesHold}
 use Rattle.volume_tables.specs.Sound.{IsSound}
 use Rattle.volume_tables.specs.declared.tables.Tables.{Tables}
@@ -61,12 +61,6 @@ map_row_prop rows id file = Prim.hlevel props
 map_rows_prop : (rows : List (ℕ × Row)) (files : List (ℕ × FileRecord)) → IsProp (MapRowsHold rows files)
 map_rows_prop rows files = each_prop (MapRowHolds rows) (map_row_prop rows) files
 
-no_base_prop : (id : ℕ) (file : FileRecord) → IsProp (HasNoBase id file)
-no_base_prop id file = Prim.hlevel props
-
-bare_prop : (files : List (ℕ × FileRecord)) → IsProp (AreBare files)
-bare_prop files = each_prop HasNoBase no_base_prop files
-
 lies_prop : (k : FileBlock) (e : Extent) (file : Option FileRecord) → IsProp (LiesIn k e file)
 lies_prop k e None = ⊥_prop
 lies_prop k e (Some file) = Prim.hlevel props
@@ -96,7 +90,6 @@ rules_prop n t = Prim.hlevel (
   names_prop,
   files_prop,
   map_rows_prop,
-  bare_prop,
   extents_prop,
   chunks_prop,
   once_prop,

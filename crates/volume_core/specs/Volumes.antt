@@ -7,12 +7,13 @@ use Rattle.volume_inside.specs.Shows.{Area}
 use Rattle.volume_tables.specs.Tables as tables
 use Rattle.volume_tables.specs.Sound as files
 use Rattle.volume_tables.specs.declared.tables.Tables.{Tables}
+use Rattle.rw_filter.specs.Filters.{filtered}
 use Rattle.volume_core.specs.declared.volume.Volume.{Volume as Mounted}
 
 module _ {D : Type 0} {d : Ghosts D} where
   -- its tables
   abbrev pub tables_of : Mounted D d → Tables D d
-  tables_of v = v.tables
+  tables_of v = filtered v.filter
 
   abbrev pub device_of : Mounted D d → D
   device_of v = (tables_of v).log.disk

@@ -6,10 +6,11 @@ ghost use Rattle.plain_volume.specs.Volume.{Volume as PlainVolume};
 ghost use Rattle.plain_volume.specs.Replies.{done_reply};
 ghost use Rattle.plain_volume.specs.declared.call.Call.TheVariants.{Create, Write, SetLength, Rename, Delete};
 
+use crate::lending::{tables_in, tables_mut};
 use crate::volume::Volume;
 use plain_volume::Fault;
 use vdisk::Disk;
-use volume_files::{find_file, write_plain};
+use volume_files::find_file;
 
 impl<D: Disk> Volume<D> {
     ghost use Rattle.volume_core.specs.Volumes.{disk_of, view_now, stopped, IsKept, Endures};
@@ -32,13 +33,15 @@ impl<D: Disk> Volume<D> {
         ensures want { IsWant (Create name.now) (wants_of self.old (Create name.now)) }
         ensures failed { IsErrOf result Fault.Failed → Rose (disk_of self.old).faults (disk_of self.new).faults }
     {
-        volume_files::create(&mut self.tables, name)
+        volume_files::create(tables_mut(&mut self.filter), name)
     }
 
-    /// Puts bytes at a place of a file, with zeros up to it where the file is shorter. No bytes change nothing.
+    /// Puts bytes at a place of a file, with zeros up to it where the file is shorter. No bytes change nothing. A lost cell
+    /// beside the bytes, in a block that they touch, is told by the first place of one.
     pub fn write(&mut self, name: &[u8], at: u64, bytes: &[u8]) -> Result<(), Fault>
         requires running { stopped self.old ≡ false }
-        ensures reply { RepliesOrMemory (Write name.now at bytes.now) self.old self.new (done_reply result) }
+        ensures reply { (w : PlainVolume) → IsKept self.old w →
+            RepliesOrMemory (Write name.now at bytes.now) self.old self.new (done_reply result) }
         ensures left { (w : PlainVolume) → IsKept self.old w →
             FollowsPlain (Write name.now at bytes.now) self.old self.new (done_reply result) }
         ensures unchanged { OnErr result (view_now self.new ≡ view_now self.old) }
@@ -52,8 +55,8 @@ impl<D: Disk> Volume<D> {
         ensures want { IsWant (Write name.now at bytes.now) (wants_of self.old (Write name.now at bytes.now)) }
         ensures failed { IsErrOf result Fault.Failed → Rose (disk_of self.old).faults (disk_of self.new).faults }
     {
-        let (file, _record) = find_file(&self.tables, name)?;
-        write_plain(&mut self.tables, file, at, bytes)
+        let (file, _record) = find_file(tables_in(&self.filter), name)?;
+        self.filter.write(file, at, bytes)
     }
 
     /// Cuts a file to a length, or extends it by zeros. It takes no memory.
@@ -69,7 +72,7 @@ impl<D: Disk> Volume<D> {
         ensures want { IsWant (SetLength name.now length) (wants_of self.old (SetLength name.now length)) }
         ensures failed { IsErrOf result Fault.Failed → Rose (disk_of self.old).faults (disk_of self.new).faults }
     {
-        volume_files::set_length(&mut self.tables, name, length)
+        volume_files::set_length(tables_mut(&mut self.filter), name, length)
     }
 
     /// Gives a file another name, which no file has, its own included.
@@ -85,7 +88,7 @@ impl<D: Disk> Volume<D> {
         ensures want { IsWant (Rename from.now to.now) (wants_of self.old (Rename from.now to.now)) }
         ensures failed { IsErrOf result Fault.Failed → Rose (disk_of self.old).faults (disk_of self.new).faults }
     {
-        volume_files::rename(&mut self.tables, from, to)
+        volume_files::rename(tables_mut(&mut self.filter), from, to)
     }
 
     /// Drops a file. It takes no memory.
@@ -101,6 +104,6 @@ impl<D: Disk> Volume<D> {
         ensures want { IsWant (Delete name.now) (wants_of self.old (Delete name.now)) }
         ensures failed { IsErrOf result Fault.Failed → Rose (disk_of self.old).faults (disk_of self.new).faults }
     {
-        volume_files::delete(&mut self.tables, name)
+        volume_files::delete(tables_mut(&mut self.filter), name)
     }
 }

@@ -6,6 +6,7 @@ ghost use Rattle.plain_volume.specs.Volume.{Volume as PlainVolume};
 ghost use Rattle.plain_volume.specs.Replies.{done_reply};
 ghost use Rattle.plain_volume.specs.declared.call.Call.TheVariants.{Flush};
 
+use crate::lending::{tables_in, tables_mut};
 use crate::volume::Volume;
 use plain_volume::Fault;
 use vdisk::Disk;
@@ -37,20 +38,20 @@ impl<D: Disk> Volume<D> {
         ensures want { IsWant Flush (wants_of self.old Flush) }
         ensures failed { IsErrOf result Fault.Failed → Rose (disk_of self.old).faults (disk_of self.new).faults }
     {
-        self.tables.commit()
+        tables_mut(&mut self.filter).commit()
     }
 
     /// The disk's moment.
     pub fn moment(&self) -> u64
         ensures { result ≡ (disk_of self.now).moment }
     {
-        self.tables.moment()
+        tables_in(&self.filter).moment()
     }
 
     /// Whether a write or a sync has failed. Then no call may be made but this one, `moment` and `into_disk`.
     pub fn is_stopped(&self) -> bool
         ensures { result ≡ stopped self.now }
     {
-        self.tables.is_stopped()
+        tables_in(&self.filter).is_stopped()
     }
 }

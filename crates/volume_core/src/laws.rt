@@ -17,7 +17,7 @@ use vdisk::Disk;
 pub fn volume_is_lawful<D: Disk>(volume: &Volume<D>)
     ensures { IsLawfulVolume (view_now volume.now) }
 {
-    let _tables = &volume.tables;
+    let _filter = &volume.filter;
 }
 
 /// Where a resource is wanting for a call, it is spent: what the volume has spent so far and what the call asks for
@@ -26,12 +26,12 @@ pub fn what_is_wanting_is_spent<D: Disk>(volume: &Volume<D>)
     ensures { (b i : ℕ) (call : Call) (fault : Fault) → HasSpent volume.now b i →
         wants_of volume.now call ≡ Some fault → IsSpent volume.now b i call fault }
 {
-    let _tables = &volume.tables;
+    let _filter = &volume.filter;
 }
 
 /// A commit is refused for want of an epoch only where the last one is taken.
 pub fn volumes_wear_at_the_last_epoch<D: Disk>(volume: &Volume<D>)
     ensures { wears_at (state_of volume.now) ≡ true → (state_of volume.now).pending.epoch ≡ last_epoch }
 {
-    let _tables = &volume.tables;
+    let _filter = &volume.filter;
 }

@@ -5,6 +5,7 @@ mod changes;
 mod durable;
 mod hashing;
 pub mod laws;
+mod lending;
 mod opening;
 mod reads;
 mod volume;

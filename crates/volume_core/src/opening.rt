@@ -16,6 +16,7 @@ ghost use Rattle.volume_tables.specs.Formats.{IsFormatFault, IsMakeImage};
 ghost use Rattle.volume_tables.specs.Mount.{read_meta, IsMountFault};
 ghost use Rattle.volume_tables.specs.Wants.{IsReplied};
 
+use crate::lending::filter_over;
 use crate::volume::Volume;
 use plain_volume::Fault;
 use std::alloc::Global;
@@ -51,7 +52,9 @@ impl<D: Disk> Volume<D> {
         ensures same_err { IfErr result (λ e. D.is_same disk e.0) }
     {
         match Tables::format(alloc, disk, clusters) {
-            Ok(fresh) => Ok(Volume { tables: fresh }),
+            Ok(fresh) => Ok(Volume {
+                filter: filter_over(fresh),
+            }),
             Err(fault) => Err(fault),
         }
     }
@@ -72,7 +75,9 @@ impl<D: Disk> Volume<D> {
         ensures same_err { IfErr result (λ e. D.is_same disk e.0) }
     {
         match Tables::mount(alloc, disk) {
-            Ok(tables) => Ok(Volume { tables }),
+            Ok(tables) => Ok(Volume {
+                filter: filter_over(tables),
+            }),
             Err(fault) => Err(fault),
         }
     }
@@ -107,6 +112,6 @@ impl<D: Disk> Volume<D> {
     pub fn into_disk(self) -> D
         ensures { result ≡ device_of self }
     {
-        self.tables.into_disk()
+        self.filter.into_store().into_tables().into_disk()
     }
 }

@@ -1,14 +1,15 @@
 //! A volume over a disk.
 
 ghost use Rattle.volume_tables.specs.Sound.{IsSound};
+ghost use Rattle.rw_filter.specs.Filters.{filtered};
 ghost use Rattle.volume_core.specs.Sound.{sound_prop};
 
+use rw_filter::Filter;
 use vdisk::Disk;
-use volume_tables::Tables;
 
-/// A volume over a disk: its tables, which are sound between two calls.
+/// A volume over a disk: its files with their bases, over tables that are sound between two calls.
 #[derive(Drop)]
 pub struct Volume<D: Disk> {
-    pub(crate) tables: Tables<D>,
-    ghost sound: { IsSound tables } by { sound_prop tables },
+    pub(crate) filter: Filter<D>,
+    ghost sound: { IsSound (filtered filter) } by { sound_prop (filtered filter) },
 }

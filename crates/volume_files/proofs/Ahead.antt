@@ -1,5 +1,5 @@
 -- Clusters that were written ahead, in the steps of a write.
-use Rattle.std.specs.Prelude.{◌≡◌, ◌≤◌, ◌<◌, ◌+◌, ◌*◌, ◌-◌, ℕ, Bool, List, length, get_or, drop, Option, Result, Ok, Err, IfOk, if◌then◌else◌}
+use Rattle.std.specs.Prelude.{◌≡◌, ◌≤◌, ◌<◌, ◌+◌, ◌*◌, ◌-◌, ℕ, Bool, List, length, get_or, drop, Result, Ok, Err, IfOk, if◌then◌else◌}
 use Rattle.std.proofs.Common.{sym, ◌∙◌, ap, subst, arith}
 use Rattle.std.proofs.lemmas.List.{get_or-take, get_or-drop}
 use Rattle.vdisk.specs.Ranges.{part, length-part, part_part}
@@ -7,13 +7,12 @@ use Rattle.vdisk.specs.declared.disk.Disk.{Ghosts}
 use Rattle.cluster_space.specs.declared.run.Run.{Run}
 use Rattle.cluster_space.specs.declared.state.State.{State}
 use Rattle.cluster_space.specs.declared.state.State.TheVariants.{Free}
-use Rattle.table_records.specs.declared.records.Extent.{Extent}
 use Rattle.volume_inside.specs.Inside.{cluster_bytes}
 use Rattle.volume_tables.specs.Clusters.{HasState}
 use Rattle.volume_tables.specs.Frames.{AreFree}
 use Rattle.volume_tables.specs.Tables.{disk_of, states_of}
 use Rattle.volume_tables.specs.declared.tables.Tables.{Tables}
-use Rattle.volume_files.specs.Writing.{laid, named_bytes, without_first, AreAhead, AreFilled, HasLaid}
+use Rattle.volume_files.specs.Writing.{laid, without_first, AreAhead, AreFilled, HasLaid}
 use Rattle.volume_files.proofs.Overwritten.{within}
 
 laid_filled : (start at : ℕ) (bytes : List ℕ) (old o : ℕ) → at ≤ start → start + 4096 ≤ at + length bytes → o < 4096
@@ -28,10 +27,9 @@ laid_filled start at bytes old o low high under =
 
 module _ (start at : ℕ) (bytes : List ℕ) (run : Run) (image : List ℕ) where
   -- the first of them has its block
-  pub first_laid : (was : Option Extent) (older : List ℕ) → 0 < run.count
-      → AreFilled start at (length bytes) run.count → AreAhead start at bytes run image
-      → HasLaid start at bytes was older image run.first
-  first_laid was older some filled ahead o under =
+  pub first_laid : (stood : ℕ → ℕ) → 0 < run.count → AreFilled start at (length bytes) run.count
+      → AreAhead start at bytes run image → HasLaid start at bytes stood image run.first
+  first_laid stood some filled ahead o under =
       let low = (filled 0 some).0 in
       let high = (filled 0 some).1 in
       let one : run.first ≡ run.first + 0 = omega arith in
@@ -39,7 +37,7 @@ module _ (start at : ℕ) (bytes : List ℕ) (run : Run) (image : List ℕ) wher
       let here = ap (λ (c : ℕ). cluster_bytes c image) one ∙ ahead 0 some
       ∙ ap (λ (p : ℕ). part p 4096 bytes) place in
       ap (λ (xs : List ℕ). get_or xs o 0) here
-      ∙ laid_filled start at bytes (get_or (named_bytes was older) o 0) o (omega (arith, low)) (omega (arith, high)) under
+      ∙ laid_filled start at bytes (stood (start + o)) o (omega (arith, low)) (omega (arith, high)) under
 
   -- and the others are those of the blocks behind
   pub rest_ahead : AreAhead start at bytes run image → AreAhead (start + 4096) at bytes (without_first run) image

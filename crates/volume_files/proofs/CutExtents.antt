@@ -19,7 +19,7 @@ use Rattle.table_records.specs.declared.records.FileRecord.{FileRecord}
 use Rattle.table_records.specs.declared.records.Extent.{Extent}
 use Rattle.table_records.specs.declared.chunk_records.Row.{Row}
 use Rattle.volume_inside.specs.Bases.{Bases, base_cell, cell_of_record}
-use Rattle.volume_inside.specs.ChunkRules.{CoverHolds, HasNoBase, IsMapRow, MapRowHolds}
+use Rattle.volume_inside.specs.ChunkRules.{CoverHolds, IsMapRow, MapRowHolds}
 use Rattle.volume_inside.specs.Changes.{with_file, keep_extents}
 use Rattle.volume_inside.specs.Entries.{Each, each_found}
 use Rattle.volume_inside.specs.Layout.{IsDataCluster}
@@ -358,8 +358,6 @@ module _ (id len : ℕ) (t : Typed) where
         })
         (map_row_resized len file q.chunks.rows id
         (each_found nat_cmp nat_cmp-IsAntisymmetric (MapRowHolds q.chunks.rows) id file q.files there kept.map_rows))
-        (let none = each_found nat_cmp nat_cmp-IsAntisymmetric HasNoBase id file q.files there kept.bare in
-        omega (arith, none))
         (each_by_find (λ k e. k.0 ≡ id → 4096 * k.1 + e.valid ≤ len) q.extents order
         (λ k e at same. ends k e at (each_found pair_cmp exact_blocks
         (ExtentHolds n q.files) k e q.extents at kept.extents).in_cluster same))

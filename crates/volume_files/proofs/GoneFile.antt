@@ -41,7 +41,8 @@ use Rattle.volume_files.specs.Names.{is_other, without_name}
 use Rattle.volume_files.proofs.CutExtents.{range_is_behind}
 use Rattle.volume_files.proofs.Found.{names_in_order}
 use Rattle.volume_files.proofs.OneName.{only_name}
-use Rattle.volume_tables.proofs.Mapped.{rules_have_maps}
+use Rattle.volume_tables.proofs.Mapped.{maps_changed}
+use Rattle.volume_files.proofs.FileMaps.{maps_gone}
 
 -- ---- tests
 
@@ -165,7 +166,8 @@ module _ {D : Type 0} {d : Ghosts D} (t m s : Tables D d) (name : List ℕ) (id 
       (only_name name) (only_file id) (only_blocks id)) in
       record {
         rules = rules;
-        maps = rules_have_maps s rules;
+        maps = maps_changed m s (without_name name id (tables_now m)) staged.leaves.tells changed staged.image
+            (λ maps. maps_gone (tables_now m) (disk_of m).image maps name id) sound.maps;
         counted = λ run. staged.counts ∙ sound.counted (sym staged.running ∙ run)
             ∙ ap (λ (k : ℕ). data_clusters k) (sym staged.leaves.clusters);
       }

@@ -1,10 +1,10 @@
 -- What an inside becomes, where the tables and the disk change so.
 use Rattle.std.specs.Prelude.{◌≡◌, ◌≤◌, ◌<◌, ◌+◌, ◌-◌, ◌*◌, ◌/◌, ◌%◌, ◌==◌, ◌&&◌, ℕ, suc, Bool, true, false, cond, not}
-use Rattle.std.specs.Prelude.{nat_lt, T, List, [], ◌∷◌, length, take, get_or, map, min, Option, Some, None}
+use Rattle.std.specs.Prelude.{nat_lt, T, List, [], ◌∷◌, length, take, get_or, map, min, max, Option, Some, None}
 use Rattle.std.specs.Prelude.{refl}
 use Rattle.std.proofs.Common.{inl, inr, ◌∙◌, ap, sym, arith}
 use Rattle.std.proofs.lemmas.Bool.{le-leb, eq-eqb}
-use Rattle.std.proofs.lemmas.List.{take-take, take_all, length-take, length-take-le, get_or-take, get_or_past}
+use Rattle.std.proofs.lemmas.List.{take-take, take_all, length-take, length-take-le, get_or-take}
 use Rattle.std.proofs.lemmas.List.FromFn.{length-map-range_with_len, get_or-map-range_with_len}
 use Rattle.std.proofs.lemmas.Grind.{same_number_lists}
 use Rattle.std.specs.List.{range_with_len}
@@ -28,14 +28,17 @@ use Rattle.volume_tables.specs.declared.tables.Tables.{Tables}
 use Rattle.volume_files.specs.Insides.{Blocks, of_id, of_record, cut_one, blocks_cut_if, file_resized}
 use Rattle.volume_files.specs.Insides.{id_renamed, id_deleted, id_resized, inside_created, inside_renamed}
 use Rattle.volume_files.specs.Insides.{inside_deleted, inside_resized, block_written, blocks_written, with_blocks}
-use Rattle.volume_files.specs.Insides.{file_written, id_written}
+use Rattle.volume_files.specs.Insides.{file_written, id_written, stood_at}
 use Rattle.volume_files.specs.Lengths.{cut_extent, with_extent_if, lies_behind, cut_if, record_resized, resized_in}
 use Rattle.volume_files.specs.Names.{with_new, with_renamed, without_name}
 use Rattle.volume_files.specs.Needs.{touched}
-use Rattle.volume_files.specs.Reads.{byte_in}
-use Rattle.volume_files.specs.Writing.{laid, named_bytes, reaching, blocks_up_to}
+use Rattle.volume_files.specs.Edges.{edge_byte, AreEdgesOf}
+use Rattle.volume_files.specs.declared.edges.Edges.{Edges}
+use Rattle.volume_files.specs.Writing.{laid, reaching, blocks_up_to}
 use Rattle.volume_files.proofs.CutExtents.{exact_blocks, cut_means, cut_none}
 use Rattle.volume_files.proofs.Extents.{same_found, found_put, found_beside}
+use Rattle.volume_files.proofs.EdgeBytes.{edge_stood}
+use Rattle.volume_files.proofs.Laid.{blocks_alike}
 use Rattle.volume_files.proofs.Owned.{find-blocks}
 
 -- ---- a call that changed the tables over an image that stayed, once room was made
@@ -188,61 +191,62 @@ module _ (id len : ℕ) (t : Typed) (image : List ℕ) (sorted : T (is_sorted pa
 -- ---- bytes
 
 -- the bytes of a block up to the file's end, each of which was laid or stood there
-pub block_is_written : (len at index : ℕ) (bytes image block : List ℕ) (valid : ℕ) (was : Option Extent)
+pub block_is_written : (len at index : ℕ) (bytes block : List ℕ) (valid : ℕ) (stood : ℕ → ℕ)
     → length block ≡ 4096 → valid ≡ min 4096 (len - 4096 * index)
-    → ((o : ℕ) → o < 4096
-    → get_or block o 0 ≡ laid at bytes (4096 * index + o) (get_or (named_bytes was image) o 0))
-    → take valid block ≡ block_written len at bytes index (option_map (λ e. block_of e image) was)
-block_is_written len at index bytes image block valid was whole is written =
+    → ((o : ℕ) → o < 4096 → get_or block o 0 ≡ laid at bytes (4096 * index + o) (stood (4096 * index + o)))
+    → take valid block ≡ block_written len at bytes stood index
+block_is_written len at index bytes block valid stood whole is written =
     same_number_lists (take valid block) (map byte (range_with_len 0 (min 4096 (len - 4096 * index))))
     (size ∙ is ∙ sym (length-map-range_with_len byte 0 (min 4096 (len - 4096 * index))))
     (λ k low.
     let under : k < valid = omega (arith, low, size) in
     get_or-take valid block k 0 under ∙ written k (omega (arith, under, is))
-    ∙ ap (λ (x : ℕ). laid at bytes (4096 * index + k) x) (stood k was)
     ∙ sym (get_or-map-range_with_len byte 0 (min 4096 (len - 4096 * index)) k k 0 (omega (arith, under, is))
     (omega arith)))
   where
     byte : ℕ → ℕ
-    byte o = laid at bytes (4096 * index + o) (byte_in (option_map (λ e. block_of e image) was) o)
+    byte o = laid at bytes (4096 * index + o) (stood (4096 * index + o))
 
     size : length (take valid block) ≡ valid
     size = length-take-le valid block (omega (arith, whole, is))
 
-    stood : (k : ℕ) (o : Option Extent)
-        → get_or (named_bytes o image) k 0 ≡ byte_in (option_map (λ e. block_of e image) o) k
-    stood k None = get_or_past [] k 0 (omega arith)
-    stood k (Some e) = refl
-
 -- blocks from one on, once the first of them was set and then the later ones
-pub blocks_then : (id len at : ℕ) (bytes : List ℕ) (index to : ℕ) (i j : Inside) (block : List ℕ) → 4096 * index < to
-    → j ≡ with_block (id, index) block i
-    → block ≡ block_written len at bytes index (find pair_cmp (id, index) i.blocks)
-    → with_blocks (blocks_written id len at bytes (index + 1) (blocks_up_to to (index + 1)) j.blocks) j
-    ≡ with_blocks (blocks_written id len at bytes index (blocks_up_to to index) i.blocks) i
-blocks_then id len at bytes index to i j block low set written =
+pub blocks_then : (id len at : ℕ) (bytes : List ℕ) (stood : ℕ → ℕ) (index to : ℕ) (i j : Inside) (block : List ℕ)
+    → 4096 * index < to → j ≡ with_block (id, index) block i → block ≡ block_written len at bytes stood index
+    → with_blocks (blocks_written id len at bytes stood (index + 1) (blocks_up_to to (index + 1)) j.blocks) j
+    ≡ with_blocks (blocks_written id len at bytes stood index (blocks_up_to to index) i.blocks) i
+blocks_then id len at bytes stood index to i j block low set written =
     let more : suc (blocks_up_to to (index + 1)) ≡ blocks_up_to to index = omega (arith, low) in
-    ap (λ (x : Inside). with_blocks (blocks_written id len at bytes (index + 1) (blocks_up_to to (index + 1))
+    ap (λ (x : Inside). with_blocks (blocks_written id len at bytes stood (index + 1) (blocks_up_to to (index + 1))
     x.blocks) x)
     (set ∙ ap (λ (b : List ℕ). with_block (id, index) b i) written)
-    ∙ ap (λ (n : ℕ). with_blocks (blocks_written id len at bytes index n i.blocks) i) more
+    ∙ ap (λ (n : ℕ). with_blocks (blocks_written id len at bytes stood index n i.blocks) i) more
 
 -- the record of the file after its blocks
 pub file_then : {D : Type 0} {d : Ghosts D} (t b s : Tables D d) (id at : ℕ) (grown was : FileRecord) (bytes : List ℕ)
-    → tables_now s ≡ with_file id grown (tables_now b) → (disk_of s).image ≡ (disk_of b).image
+    (edges : Edges) → tables_now s ≡ with_file id grown (tables_now b) → (disk_of s).image ≡ (disk_of b).image
     → find nat_cmp id (tables_now t).files ≡ Some was → grown ≡ reaching (at + length bytes) was → 0 < length bytes
-    → inside_now b ≡ with_blocks (blocks_written id grown.length at bytes (at / 4096)
+    → AreEdgesOf (inside_now t) id at (length bytes) edges was
+    → inside_now b ≡ with_blocks (blocks_written id grown.length at bytes (edge_byte edges at) (at / 4096)
     (blocks_up_to (at + length bytes) (at / 4096)) (inside_now t).blocks) (inside_now t)
     → inside_now s ≡ id_written id at bytes (inside_now t)
-file_then t b s id at grown was [] set image found is some blocks = absurd (omega (arith, some))
-file_then t b s id at grown was (x ∷ xs) set image found is some blocks =
+file_then t b s id at grown was [] edges set image found is some are blocks = absurd (omega (arith, some))
+file_then t b s id at grown was (x ∷ xs) edges set image found is some are blocks =
     let i = inside_now t in
     let bytes = x ∷ xs in
+    let len : ℕ = max was.length (at + length bytes) in
+    let n : ℕ = touched at (length bytes) in
     let count : blocks_up_to (at + length bytes) (at / 4096) ≡ touched at (length bytes) = omega (arith, some) in
+    let stood = blocks_alike id len at bytes (edge_byte edges at) (stood_at i id was)
+    (edge_stood i id at (length bytes) edges was are) n (at / 4096) i.blocks (omega arith) (omega arith) in
     (λ k. inside_at (set k) (image k))
     ∙ ap (λ (j : Inside). record j { files = put nat_cmp id grown j.files }) blocks
     ∙ (λ k. record i {
       files = put nat_cmp id (is k) i.files;
-      blocks = blocks_written id (is k).length at bytes (at / 4096) (count k) i.blocks;
+      blocks = blocks_written id (is k).length at bytes (edge_byte edges at) (at / 4096) (count k) i.blocks;
+    })
+    ∙ (λ k. record i {
+      files = put nat_cmp id (reaching (at + length bytes) was) i.files;
+      blocks = stood k;
     })
     ∙ sym (ap (λ (o : Option FileRecord). of_record o (λ f. file_written id at bytes f i) i) found)

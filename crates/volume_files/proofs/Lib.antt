@@ -17,10 +17,14 @@ pub mod Resized
 pub mod OneName
 pub mod GoneFile
 pub mod OtherName
+pub mod FileMaps
 pub mod Written
 pub mod WriteReplies
+pub mod NoRoom
 pub mod Spent
 pub mod Insides
-pub mod ReadFirst
 pub mod Ahead
 pub mod Missing
+pub mod EdgeBytes
+pub mod Laid
+pub mod AfterRead

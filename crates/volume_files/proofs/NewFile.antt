@@ -1,5 +1,5 @@
 -- A file that is made, and one that is taken back.
-use Rattle.std.specs.Prelude.{◌≡◌, ◌≤◌, ◌<◌, ◌+◌, ◌-◌, ◌^◌, ℕ, Bool, true, false, cond, not, ◌&&◌, T, List, [], ◌∷◌}
+use Rattle.std.specs.Prelude.{◌≡◌, ◌≤◌, ◌<◌, ◌+◌, ℕ, Bool, true, false, cond, not, ◌&&◌, T, List, [], ◌∷◌}
 use Rattle.std.specs.Prelude.{length, Option, Some, None, IsSome, IsSomeAnd, Result, Ok, OnOk, OnErr, refl}
 use Rattle.std.proofs.Common.{inl, inr, ◌∙◌, ap, sym, subst, arith}
 use Rattle.std.proofs.lemmas.Result.{on_ok_weaker, on_err_weaker}
@@ -9,6 +9,7 @@ use Rattle.std.specs.Ordering.{nat_cmp, is_eq, is_le, is_lt}
 use Rattle.std.specs.Cmp.{nat_cmp_total, tied_itself, nat_cmp_is}
 use Rattle.std.specs.FinMap.{find, put, is_sorted}
 use Rattle.std.specs.FinMap.Entries.{by_order, where_key, find-put}
+use Rattle.groundwork.specs.declared.limits.TheConstants.{LAST_ID}
 use Rattle.byte_map.specs.Words.{bytes_cmp}
 use Rattle.vdisk.specs.declared.disk.Disk.{Ghosts}
 use Rattle.cluster_space.specs.States.{free_in, deferred_in}
@@ -24,6 +25,7 @@ use Rattle.table_records.specs.Keys.{single_cmp}
 use Rattle.table_records.specs.declared.records.VolumeRecord.{VolumeRecord}
 use Rattle.table_records.specs.Changes.{is_in_range}
 use Rattle.table_records.specs.declared.records.FileRecord.{FileRecord}
+use Rattle.volume_inside.specs.ChunkRules.{MapsHold}
 use Rattle.volume_inside.specs.Changes.{with_file as file_put, keep_files}
 use Rattle.volume_inside.specs.Entries.{Each, each_weaker}
 use Rattle.volume_inside.specs.Inside.{Inside, inside_at}
@@ -42,7 +44,8 @@ use Rattle.volume_tables.specs.Sound.{IsSound}
 use Rattle.volume_tables.specs.Wants.{last_id}
 use Rattle.volume_files.specs.Names.{empty_file, with_new, IsNewName, IsRefused}
 use Rattle.volume_files.proofs.Found.{names_in_order, length_of_view}
-use Rattle.volume_tables.proofs.Mapped.{rules_have_maps}
+use Rattle.volume_tables.proofs.Mapped.{maps_changed}
+use Rattle.volume_files.proofs.FileMaps.{maps_new}
 
 -- ---- the record of a file that was just put, above all others, is dropped
 
@@ -121,7 +124,7 @@ volume_there None some = absurd some
 volume_there (Some v) some = λ i. Some (record { version = some.version i; next_id = v.next_id })
 
 last_below : (o : Option VolumeRecord) → IsSomeAnd o IsVolumeRecord → (id_after o ≡ last_id → ⊥)
-    → id_after o < 2 ^ 48 - 1
+    → id_after o < LAST_ID
 last_below None some differ = absurd some
 last_below (Some v) some differ = let last = some.last_id in omega (arith, last, differ)
 
@@ -182,13 +185,13 @@ module _ {D : Type 0} {d : Ghosts D} (t m p : Tables D d) (name : List ℕ) (new
       err
 
   sound_as : (q : Typed) → tables_now p ≡ q → RulesHold (clusters_in m) q → clusters_of q ≡ clusters_of (tables_now m)
-      → IsSound p
-  sound_as q is held clusters =
+      → (MapsHold (inside_now m) → MapsHold (inside_at q (disk_of m).image)) → IsSound p
+  sound_as q is held clusters stay =
       let rules : RulesHold (clusters_in p) (tables_now p) =
       subst (λ (x : ℕ × Typed). RulesHold x.0 x.1) (λ i. (sym leaves.clusters i, sym is i)) held in
       record {
         rules = rules;
-        maps = rules_have_maps p rules;
+        maps = maps_changed m p q leaves.tells is image stay sound.maps;
         counted = λ runs.
             let named : clusters_of (tables_now p) ≡ clusters_of (tables_now m) = ap (λ (x : Typed). clusters_of x) is
             ∙ clusters in
@@ -201,5 +204,6 @@ module _ {D : Type 0} {d : Ghosts D} (t m p : Tables D d) (name : List ℕ) (new
     | inl is ↦ sound_as (with_new name (tables_now m)) is
         (rules_with_new (clusters_in m) (tables_now m) name sound.rules (names_in_order m)
         (subst (λ (q : Typed). IsNewName q name) (sym now) new) ids) refl
-    | inr is ↦ sound_as (tables_now m) is sound.rules refl
+        (λ maps. maps_new (tables_now m) (disk_of m).image maps name)
+    | inr is ↦ sound_as (tables_now m) is sound.rules refl (λ maps. maps)
   ]

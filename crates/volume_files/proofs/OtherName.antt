@@ -19,6 +19,7 @@ use Rattle.plain_volume.specs.declared.call.Reply.TheVariants as reply
 use Rattle.plain_volume.specs.declared.call.Fault.{Fault}
 use Rattle.plain_volume.specs.declared.call.Fault.TheVariants.{BadName, NoFile, Exists}
 use Rattle.plain_volume.proofs.Own.{rename_bad_to, rename_missing, rename_exists, rename_done}
+use Rattle.volume_inside.specs.ChunkRules.{MapsHold}
 use Rattle.volume_inside.specs.Entries.{Each}
 use Rattle.volume_inside.specs.Changes.{with_name}
 use Rattle.volume_inside.specs.Inside.{Inside, inside_at}
@@ -41,7 +42,7 @@ use Rattle.volume_files.proofs.Found.{names_in_order}
 use Rattle.volume_files.proofs.OneName.{only_name}
 use Rattle.groundwork.proofs.Bools.{both_true}
 use Rattle.groundwork.proofs.Orders.{is_less}
-use Rattle.volume_tables.proofs.Mapped.{rules_have_maps}
+use Rattle.volume_tables.proofs.Mapped.{maps_changed}
 
 -- ---- a name is put, and another one dropped, in any order
 
@@ -195,13 +196,14 @@ module _ {D : Type 0} {d : Ghosts D} (t m p : Tables D d) (from to : List ℕ) (
   view_unput = on_err_weaker r (λ same. (λ i. view (inside_at (same i) (staged.image i)))
       ∙ ap (λ (j : Inside). view j) inside) err
 
-  sound_as : (q : Typed) → tables_now p ≡ q → RulesHold (clusters_in m) q → IsSound p
-  sound_as q same held =
+  sound_as : (q : Typed) → tables_now p ≡ q → RulesHold (clusters_in m) q
+      → (MapsHold (inside_now m) → MapsHold (inside_at q (disk_of m).image)) → IsSound p
+  sound_as q same held stay =
       let rules : RulesHold (clusters_in p) (tables_now p) =
       subst (λ (x : ℕ × Typed). RulesHold x.0 x.1) (λ i. (sym staged.leaves.clusters i, sym same i)) held in
       record {
         rules = rules;
-        maps = rules_have_maps p rules;
+        maps = maps_changed m p q staged.leaves.tells same staged.image stay sound.maps;
         counted = λ run. staged.counts ∙ sound.counted (sym staged.running ∙ run)
             ∙ ap (λ (k : ℕ). data_clusters k) (sym staged.leaves.clusters);
       }
@@ -210,6 +212,6 @@ module _ {D : Type 0} {d : Ghosts D} (t m p : Tables D d) (from to : List ℕ) (
   sound_put = elim (ok_or_err r ok err) [
     | inl done ↦ sound_as (with_renamed from to id (tables_now m)) done
         (rules_renamed (clusters_in m) (tables_now m) sound.rules from to id
-        (names_in_order m) is_still.named is_still.free is_still.lawful_to (is_other from) (only_name from))
-    | inr same ↦ sound_as (tables_now m) same sound.rules
+        (names_in_order m) is_still.named is_still.free is_still.lawful_to (is_other from) (only_name from)) (λ maps. maps)
+    | inr same ↦ sound_as (tables_now m) same sound.rules (λ maps. maps)
   ]

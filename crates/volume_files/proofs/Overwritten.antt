@@ -99,11 +99,14 @@ zeros_are_zero n o = elim (cases_lt o n) [
 ]
 
 -- where the bytes lie it does not matter what stood there
-pub laid_anyway : (at : ℕ) (bytes : List ℕ) (p a b : ℕ) → at ≤ p → p < at + length bytes
+pub laid_alike : (at : ℕ) (bytes : List ℕ) (p a b : ℕ) → (is_within at (length bytes) p ≡ false → a ≡ b)
     → laid at bytes p a ≡ laid at bytes p b
-laid_anyway at bytes p a b low high =
-    ap (λ (t : Bool). if t then get_or bytes (p - at) 0 else a) (within at (length bytes) p low high)
-    ∙ sym (ap (λ (t : Bool). if t then get_or bytes (p - at) 0 else b) (within at (length bytes) p low high))
+laid_alike at bytes p a b same = by (is_within at (length bytes) p) same
+  where
+    by : (t : Bool) → (t ≡ false → a ≡ b)
+        → (if t then get_or bytes (p - at) 0 else a) ≡ (if t then get_or bytes (p - at) 0 else b)
+    by true same = refl
+    by false same = same refl
 
 -- ---- cells
 

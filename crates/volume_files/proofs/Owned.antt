@@ -1,5 +1,5 @@
 -- Cells that come from no base.
-use Rattle.std.specs.Prelude.{◌≡◌, ◌≤◌, ◌<◌, ◌+◌, ◌-◌, ◌*◌, ◌/◌, ◌%◌, ℕ, Bool, true, false, cond}
+use Rattle.std.specs.Prelude.{◌≡◌, ◌≤◌, ◌<◌, ◌+◌, ◌-◌, ◌*◌, ◌/◌, ◌%◌, ℕ, true, false, cond}
 use Rattle.std.specs.Prelude.{List, [], ◌∷◌, length, Option, Some, None, IsSome, refl}
 use Rattle.std.proofs.Common.{sym, ◌∙◌, ap, subst, inl, inr, arith}
 use Rattle.std.proofs.lemmas.Bool.{cases_lt}
@@ -7,20 +7,16 @@ use Rattle.std.proofs.lemmas.Bool.Decides.{nat_tests}
 use Rattle.std.specs.Option.{option_map}
 use Rattle.std.specs.Ordering.{nat_cmp, eq_by_cmp}
 use Rattle.std.specs.FinMap.{find}
-use Rattle.std.specs.FinMap.Entries.{find-put}
 use Rattle.plain_volume.specs.Volume.{Byte, is_beside, is_within}
 use Rattle.table_records.specs.Keys.{pair_cmp}
-use Rattle.table_records.specs.Orders.{pair_total}
 use Rattle.table_records.specs.declared.records.Extent.{Extent}
 use Rattle.table_records.specs.declared.records.FileRecord.{FileRecord}
 use Rattle.volume_inside.specs.Bases.{base_cell, cell_behind}
-use Rattle.volume_inside.specs.Changes.{with_extent, with_file}
 use Rattle.volume_inside.specs.Inside.{Inside, inside_at, block_of, blocks_of}
 use Rattle.volume_inside.specs.Typed.{Typed, FileBlock}
 use Rattle.volume_inside.specs.View.{cell, cell_in}
 use Rattle.volume_files.specs.Own.{covered_in, IsOwn, AreOwnAround, AreOwnBeside}
 use Rattle.volume_files.specs.Reads.{byte_in, byte_at}
-use Rattle.volume_files.proofs.BlockSet.{found_file}
 
 -- the block of a key is that of its extent
 pub find-blocks : (k : FileBlock) (es : List (FileBlock × Extent)) (image : List ℕ)
@@ -96,38 +92,3 @@ beside_of at n index p early late here out = elim (cases_lt p at) [
       let one : p / 4096 ≡ (at + n - 1) / 4096 = omega (arith, behind, late, here) in
       grind (arith, nat_tests)
 ]
-
-module _ (t : Typed) (id at n : ℕ) (file : FileRecord) where
-  -- the same with another record that covers as much
-  pub own_with_file : (was : FileRecord) → find nat_cmp id t.files ≡ Some was → file.covers ≡ was.covers
-      → AreOwnBeside t id at n → AreOwnBeside (with_file id file t) id at n
-  own_with_file was found same own p beside low =
-      let now : covered_in (find nat_cmp id (with_file id file t).files) ≡ file.covers =
-      ap covered_in (found_file id file t.files) in
-      let before : covered_in (find nat_cmp id t.files) ≡ was.covers = ap covered_in found in
-      own p beside (omega (arith, low, now, before, same))
-
-  -- and once an extent was set
-  pub own_with_extent : (k : FileBlock) (e : Extent) (u : Typed) → u ≡ with_extent k e t
-      → AreOwnBeside (with_file id file t) id at n → AreOwnBeside (with_file id file u) id at n
-  own_with_extent k e u set own = subst (λ (q : Typed). AreOwnBeside (with_file id file q) id at n) (sym set) more
-    where
-      either : (b : Bool) (o : Option Extent) → IsSome o → IsSome (cond b (Some e) o)
-      either true o there = refl
-      either false o there = there
-
-      more : AreOwnBeside (with_file id file (with_extent k e t)) id at n
-      more p beside low =
-          subst IsSome (sym (find-put pair_cmp pair_total (id, p / 4096) k e t.extents))
-          (either (eq_by_cmp pair_cmp (id, p / 4096) k) (find pair_cmp (id, p / 4096) t.extents)
-          (own p beside low))
-
-  -- what the bytes do not fill of a block that they touch comes from no base
-  pub own_beside : AreOwnBeside (with_file id file t) id at n → (index : ℕ) (was : Option Extent)
-      → find pair_cmp (id, index) t.extents ≡ was → at < 4096 * index + 4096 → 4096 * index < at + n
-      → (p : ℕ) → p / 4096 ≡ index → is_within at n p ≡ false → p < file.covers → IsSome was
-  own_beside own index was found early late p here out low =
-      let now : covered_in (find nat_cmp id (with_file id file t).files) ≡ file.covers =
-      ap covered_in (found_file id file t.files) in
-      subst IsSome (ap (λ (n : ℕ). find pair_cmp (id, n) t.extents) here ∙ found)
-      (own p (beside_of at n index p early late here out) (omega (arith, low, now)))

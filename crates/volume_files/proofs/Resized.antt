@@ -1,9 +1,10 @@
 -- What another length of a file answers and leaves.
-use Rattle.std.specs.Prelude.{◌≡◌, ◌≤◌, ◌<◌, ◌^◌, ℕ, Bool, false, not, List, Option, Some, None, IsSomeAnd, Ok}
+use Rattle.std.specs.Prelude.{◌≡◌, ◌≤◌, ◌<◌, ℕ, Bool, false, not, List, Option, Some, None, IsSomeAnd, Ok}
 use Rattle.std.proofs.Common.{sym, ◌∙◌, ap, subst, arith}
 use Rattle.std.specs.Ordering.{nat_cmp}
 use Rattle.std.specs.FinMap.{find, nat_cmp-IsAntisymmetric}
 use Rattle.std.proofs.lemmas.Bool.{le-ltb}
+use Rattle.groundwork.specs.declared.limits.TheConstants.{LAST_ID}
 use Rattle.vdisk.specs.declared.disk.Disk.{Ghosts}
 use Rattle.byte_map.specs.Words.{bytes_cmp}
 use Rattle.plain_volume.specs.Step.{Outcome, plain, after, left_by, at_file, refuse_if, set_length}
@@ -33,16 +34,16 @@ use Rattle.volume_files.proofs.Counted.{extents_in_order}
 use Rattle.volume_files.proofs.CutCells.{view_resized}
 use Rattle.volume_files.proofs.CutExtents.{rules_resized}
 use Rattle.volume_files.proofs.Found.{names_in_order}
-use Rattle.volume_tables.proofs.Mapped.{rules_have_maps}
+use Rattle.volume_files.proofs.FileMaps.{maps_resized}
 
 -- the id of a file was drawn
 pub small_id : (n : ℕ) (t : Typed) → RulesHold n t → (id : ℕ) (file : FileRecord)
-    → find nat_cmp id t.files ≡ Some file → id < 2 ^ 48
+    → find nat_cmp id t.files ≡ Some file → id ≤ LAST_ID
 small_id n t rules id file found =
     let holds = each_found nat_cmp nat_cmp-IsAntisymmetric (FileHolds (next_id_of t)) id file t.files found rules.files in
     by (find single_cmp tt t.volume) rules.records.volume holds.drawn
   where
-    by : (o : Option VolumeRecord) → IsSomeAnd o IsVolumeRecord → id < id_after o → id < 2 ^ 48
+    by : (o : Option VolumeRecord) → IsSomeAnd o IsVolumeRecord → id < id_after o → id ≤ LAST_ID
     by None some drawn = absurd (omega (arith, drawn))
     by (Some v) some drawn = (let last = some.last_id in omega (arith, drawn, last))
 
@@ -82,7 +83,7 @@ module _ {D : Type 0} {d : Ghosts D} (t : Tables D d) (name : List ℕ) (len id 
         (rules_resized id len (tables_now u) (clusters_in u) sound.rules (extents_in_order u u) file there few) in
         record {
           rules = rules;
-          maps = rules_have_maps s rules;
+          maps = maps_resized u s id len file there changed staged.image staged.leaves.tells sound.maps;
           counted = λ run. staged.counts ∙ sound.counted runs ∙ ap data_clusters (sym staged.leaves.clusters);
         }
 

@@ -1,14 +1,13 @@
 -- The blocks of a file that bytes touch, one after another.
-use Rattle.std.specs.Prelude.{◌≡◌, ◌≤◌, ◌<◌, ◌+◌, ◌-◌, ◌*◌, ◌/◌, ◌%◌, ◌&&◌, ℕ, zero, suc, Bool, true, false}
-use Rattle.std.specs.Prelude.{nat_le, List, [], length, get_or, Option, Some, None, IsSome, if◌then◌else◌}
+use Rattle.std.specs.Prelude.{◌≡◌, ◌≤◌, ◌<◌, ◌+◌, ◌-◌, ◌*◌, ◌/◌, ◌%◌, ℕ, zero, suc}
+use Rattle.std.specs.Prelude.{List, [], get_or, Option, Some, None, IsSome}
 use Rattle.std.specs.Prelude.{refl}
 use Rattle.std.proofs.Common.{sym, ◌∙◌, ap, subst, inl, inr, arith}
 use Rattle.std.proofs.lemmas.Bool.{cases_eq}
-use Rattle.std.proofs.lemmas.Bool.Decides.{nat_tests}
 use Rattle.std.proofs.lemmas.List.{get_or_past}
 use Rattle.std.specs.Option.{option_map}
 use Rattle.std.specs.FinMap.{find, put}
-use Rattle.plain_volume.specs.Volume.{Byte, is_within}
+use Rattle.plain_volume.specs.Volume.{Byte}
 use Rattle.table_records.specs.Keys.{pair_cmp}
 use Rattle.table_records.specs.declared.records.Extent.{Extent}
 use Rattle.table_records.specs.declared.records.FileRecord.{FileRecord}
@@ -17,10 +16,10 @@ use Rattle.volume_inside.specs.Inside.{Inside, inside_at, block_of}
 use Rattle.volume_inside.specs.Typed.{Typed, FileBlock}
 use Rattle.volume_inside.specs.Changes.{with_extent, with_block}
 use Rattle.volume_inside.specs.View.{cell, cell_in}
-use Rattle.volume_inside.proofs.Blocks.{cell_of_block, cell_of_another_block, cell_of_another_file}
+use Rattle.volume_inside.proofs.Blocks.{cell_of_another_file}
 use Rattle.volume_tables.specs.Tables.{new_bytes}
 use Rattle.volume_files.specs.Needs.{missing, one_if_none}
-use Rattle.volume_files.specs.Writing.{laid, laid_from, named_bytes, blocks_up_to, AreExtentsSet}
+use Rattle.volume_files.specs.Writing.{named_bytes, blocks_up_to, AreExtentsSet}
 use Rattle.volume_files.proofs.Extents.{found_put, found_beside}
 use Rattle.volume_files.proofs.Owned.{find-blocks, not_covered}
 
@@ -116,54 +115,6 @@ cell_named t image id file p was own found =
     by None own = cell_behind (inside_at t image).bases file p (not_covered p file.covers own)
         ∙ ap Byte (sym (get_or_past [] (p % 4096) 0 (omega arith)))
     by (Some e) own = refl
-
--- the cells of a file whose blocks from one on were written, where those from the next on were
-module _ (file index at : ℕ) (bytes : List ℕ) (grown : FileRecord) (was : Option Extent) (t : Typed)
-    (image block : List ℕ) (i : Inside) where
-  pub cells_then : ((p : ℕ) → p / 4096 ≡ index → is_within at (length bytes) p ≡ false → p < grown.covers → IsSome was)
-      → find pair_cmp (file, index) t.extents ≡ was
-      → i ≡ with_block (file, index) block (inside_at t image)
-      → ((o : ℕ) → o < 4096 → 4096 * index + o < grown.length
-      → get_or block o 0 ≡ laid at bytes (4096 * index + o) (get_or (named_bytes was image) o 0))
-      → (p : ℕ) → p < grown.length
-      → laid_from (4096 * (index + 1)) at bytes p (cell i file grown p) ≡ laid_from (4096 * index) at bytes p
-      (cell (inside_at t image) file grown p)
-  cells_then own found set written p low = elim (cases_eq (p / 4096) index) [
-    | inl here ↦
-        let under : nat_le (4096 * (index + 1)) p ≡ false = grind (arith, nat_tests) in
-        let above : nat_le (4096 * index) p ≡ true = grind (arith, nat_tests) in
-        let place : 4096 * index + p % 4096 ≡ p = omega (arith, here) in
-        let key : find pair_cmp (file, p / 4096) t.extents ≡ was = ap (λ (n : ℕ). find pair_cmp (file, n) t.extents)
-        here ∙ found in
-        let old : is_within at (length bytes) p ≡ false → cell (inside_at t image) file grown p
-        ≡ Byte (get_or (named_bytes was image) (p % 4096) 0) =
-        λ out. cell_named t image file grown p was (own p here out) key in
-        let new : cell i file grown p ≡ Byte (get_or block (p % 4096) 0) =
-        ap (λ (j : Inside). cell j file grown p) set
-        ∙ ap (λ (q : ℕ). cell (with_block (file, index) block (inside_at t image)) file grown q) (sym place)
-        ∙ cell_of_block (inside_at t image) file index block (p % 4096) grown (omega arith) in
-        ap (λ (b : Bool). if (b && is_within at (length bytes) p) then Byte (get_or bytes (p - at) 0) else cell i
-        file grown p) under
-        ∙ new
-        ∙ ap Byte (written (p % 4096) (omega arith) (omega (arith, place, low))
-        ∙ ap (λ (q : ℕ). laid at bytes q (get_or (named_bytes was image) (p % 4096) 0)) place)
-        ∙ pick (is_within at (length bytes) p) (λ out. sym (old out))
-        ∙ (λ j. if (sym above j && is_within at (length bytes) p) then Byte (get_or bytes (p - at) 0)
-        else cell (inside_at t image) file grown p)
-    | inr away ↦
-        let same : cell i file grown p ≡ cell (inside_at t image) file grown p =
-        ap (λ (j : Inside). cell j file grown p) set ∙ cell_of_another_block (inside_at t image) file index block p
-        grown away in
-        let test : nat_le (4096 * (index + 1)) p ≡ nat_le (4096 * index) p = grind (arith, nat_tests) in
-        λ j. if (test j && is_within at (length bytes) p) then Byte (get_or bytes (p - at) 0) else same j
-  ]
-    where
-      pick : (b : Bool)
-          → (b ≡ false → Byte (get_or (named_bytes was image) (p % 4096) 0) ≡ cell (inside_at t image) file grown p)
-          → Byte (if b then get_or bytes (p - at) 0 else get_or (named_bytes was image) (p % 4096) 0)
-          ≡ (if b then Byte (get_or bytes (p - at) 0) else cell (inside_at t image) file grown p)
-      pick true stood = refl
-      pick false stood = stood refl
 
 -- the cells of another file
 pub cell_apart : (i j : Inside) (id n : ℕ) (bytes : List ℕ) (other p : ℕ) (file : FileRecord) → (other ≡ id → ⊥)

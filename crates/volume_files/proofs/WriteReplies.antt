@@ -97,7 +97,7 @@ module _ (name : List ℕ) (at : ℕ) (bytes : List ℕ) (v : Volume) (cells : L
 
 -- ---- replies
 
-rose_since : (before middle now : ℕ) → before ≤ middle → Rose middle now → Rose before now
+pub rose_since : (before middle now : ℕ) → before ≤ middle → Rose middle now → Rose before now
 rose_since before middle now later rose = omega (arith, later, rose)
 
 -- the reply of a call that was made where nothing is wanting

@@ -13,7 +13,7 @@ use Rattle.table_records.specs.Keys.{pair_cmp}
 use Rattle.table_records.specs.declared.records.Extent.{Extent}
 use Rattle.table_records.specs.declared.records.FileRecord.{FileRecord}
 use Rattle.volume_inside.specs.Bases.{cell_of_record}
-use Rattle.volume_inside.specs.ChunkRules.{HasNoBase, MapRowHolds}
+use Rattle.volume_inside.specs.ChunkRules.{MapRowHolds}
 use Rattle.volume_inside.specs.Entries.{each_found, each_weaker}
 use Rattle.volume_inside.specs.Inside.{inside_at, block_of, cluster_bytes}
 use Rattle.volume_inside.specs.Layout.{data_clusters}
@@ -23,6 +23,7 @@ use Rattle.volume_inside.specs.View.{cell, cell_in, cells_or_none, file_cells}
 use Rattle.volume_inside.specs.Rules.{next_id_of, RulesHold, FileHolds, ExtentHolds, LiesIn}
 use Rattle.volume_inside.proofs.Cells.{map_same}
 use Rattle.volume_inside.proofs.Lawfuls.{rules_with_file}
+use Rattle.volume_tables.specs.Tables.{HasMaps}
 use Rattle.volume_tables.specs.Tables.{tables_now, inside_now, disk_of, states_of, stopped}
 use Rattle.volume_tables.specs.declared.tables.Tables.{Tables}
 use Rattle.volume_tables.specs.Sound.{IsSound}
@@ -33,7 +34,6 @@ use Rattle.volume_files.proofs.Extents.{exact}
 use Rattle.volume_files.proofs.Overwritten.{cells_overwritten}
 use Rattle.volume_files.proofs.Taking.{told}
 use Rattle.volume_files.proofs.Touched.{cell_named}
-use Rattle.volume_tables.proofs.Mapped.{rules_have_maps}
 
 -- what always holds, also after a refusal
 pub on_err_any : {A E P : Type 0} (r : Result A E) → P → OnErr r P
@@ -64,7 +64,6 @@ module _ (n : ℕ) (t : Typed) (rules : RulesHold n t) (id to : ℕ) (was : File
         };
       })
       (each_found nat_cmp nat_cmp-IsAntisymmetric (MapRowHolds t.chunks.rows) id was t.files found rules.map_rows)
-      (each_found nat_cmp nat_cmp-IsAntisymmetric HasNoBase id was t.files found rules.bare)
       (each_weaker (ExtentHolds n t.files) (λ k e. k.0 ≡ id → 4096 * k.1 + e.valid ≤ (reaching to was).length) t.extents
       (λ k e holds same.
       let lies : 4096 * k.1 + e.valid ≤ was.length =
@@ -190,13 +189,13 @@ module _ {D : Type 0} {d : Ghosts D} (t b s : Tables D d) (id at : ℕ) (grown :
 
   pub sound_written : IsSound t → stopped t ≡ false → s.clusters ≡ t.clusters → s.clusters ≡ b.clusters
       → RulesHold b.clusters (with_file id grown (tables_now b))
-      → states_of s ≡ states_of b → (stopped s ≡ false → stopped b ≡ false) → LosesNone t b → IsSound s
-  sound_written sound running clusters after held states ran loses =
+      → states_of s ≡ states_of b → (stopped s ≡ false → stopped b ≡ false) → LosesNone t b → HasMaps s → IsSound s
+  sound_written sound running clusters after held states ran loses maps =
       let rules : RulesHold s.clusters (tables_now s) =
       subst (λ (p : ℕ × Typed). RulesHold p.0 p.1) (λ i. (sym after i, sym set i)) held in
       record {
         rules = rules;
-        maps = rules_have_maps s rules;
+        maps = maps;
         counted = λ runs.
             let count : accounted s ≡ accounted b = λ i. told (states i) (set i) in
             count ∙ loses (ran runs) ∙ sound.counted running ∙ ap (λ (n : ℕ). data_clusters n) (sym clusters);
@@ -205,12 +204,12 @@ module _ {D : Type 0} {d : Ghosts D} (t b s : Tables D d) (id at : ℕ) (grown :
 -- a call that was refused and changed no table
 pub sound_refused : {D : Type 0} {d : Ghosts D} (t s : Tables D d) → IsSound t → stopped t ≡ false
     → s.clusters ≡ t.clusters → tables_now s ≡ tables_now t
-    → LosesNone t s → IsSound s
-sound_refused t s sound running clusters same loses =
+    → LosesNone t s → HasMaps s → IsSound s
+sound_refused t s sound running clusters same loses maps =
     let rules : RulesHold s.clusters (tables_now s) =
     subst (λ (p : ℕ × Typed). RulesHold p.0 p.1) (λ i. (sym clusters i, sym same i)) sound.rules in
     record {
       rules = rules;
-      maps = rules_have_maps s rules;
+      maps = maps;
       counted = λ runs. loses runs ∙ sound.counted running ∙ ap (λ (n : ℕ). data_clusters n) (sym clusters);
     }

@@ -1,22 +1,23 @@
 -- WHAT THE CALLS ON FILES DO TO AN INSIDE: each call is a function of what an image holds, with no place of an image.
 -- Where there is no file of the name the inside is as it was.
 use Rattle.std.specs.Prelude.{◌+◌, ◌-◌, ◌*◌, ◌/◌, ◌%◌, ◌==◌, ℕ, zero, suc, Bool, true, false, not, nat_lt, List, []}
-use Rattle.std.specs.Prelude.{◌∷◌, length, map, take, min, max, Option, Some, None}
+use Rattle.std.specs.Prelude.{◌∷◌, length, map, take, min, max, Option, Some, None, if◌then◌else◌}
 use Rattle.std.specs.List.{range_with_len}
 use Rattle.std.specs.Ordering.{nat_cmp}
 use Rattle.std.specs.FinMap.{find, put}
 use Rattle.std.specs.FinMap.Entries.{where_key}
 use Rattle.byte_map.specs.Words.{bytes_cmp}
+use Rattle.plain_volume.specs.Volume.{Cell, Byte, Lost}
 use Rattle.table_records.specs.Keys.{single_cmp, pair_cmp}
 use Rattle.table_records.specs.declared.records.FileRecord.{FileRecord}
 use Rattle.volume_inside.specs.declared.layout.TheConstants.{CLUSTER_BYTES}
 use Rattle.volume_inside.specs.Typed.{FileBlock}
 use Rattle.volume_inside.specs.Inside.{Inside}
 use Rattle.volume_inside.specs.Rules.{id_after}
+use Rattle.volume_inside.specs.View.{cell}
 use Rattle.volume_files.specs.Lengths.{lies_behind, record_resized}
 use Rattle.volume_files.specs.Names.{empty_file, is_other}
 use Rattle.volume_files.specs.Needs.{first_touched, touched}
-use Rattle.volume_files.specs.Reads.{byte_in}
 use Rattle.volume_files.specs.Writing.{laid, reaching}
 
 -- the blocks of the files, each with its bytes
@@ -97,27 +98,38 @@ inside_resized name len i = of_id (find bytes_cmp name i.names) (λ id. id_resiz
 
 -- ---- bytes
 
+-- the byte of a cell, and 0 of one that is lost
+abbrev pub byte_of : Cell → ℕ
+byte_of (Byte b) = b
+byte_of Lost = 0
+
+-- the byte at a place of a file with this record, and 0 behind its end
+abbrev pub stood_at : Inside → ℕ → FileRecord → ℕ → ℕ
+stood_at i id file p = if nat_lt p file.length then byte_of (cell i id file p) else 0
+
 -- The bytes of a block of a file of so many bytes, once these were written at a place of the file: up to the file's
--- end each byte is written, or the one that stood there, or 0.
-abbrev pub block_written : ℕ → ℕ → List ℕ → ℕ → Option (List ℕ) → List ℕ
-block_written len at bytes index was =
-    map (λ o. laid at bytes (CLUSTER_BYTES * index + o) (byte_in was o)) (range_with_len 0 (min CLUSTER_BYTES (len - CLUSTER_BYTES * index)))
+-- end each byte is written, or the one that stood there.
+abbrev pub block_written : ℕ → ℕ → List ℕ → (ℕ → ℕ) → ℕ → List ℕ
+block_written len at bytes stood index =
+    map (λ o. laid at bytes (CLUSTER_BYTES * index + o) (stood (CLUSTER_BYTES * index + o)))
+    (range_with_len 0 (min CLUSTER_BYTES (len - CLUSTER_BYTES * index)))
 
 -- the blocks once so many of a file, from one on, were written
-abbrev pub blocks_written : ℕ → ℕ → ℕ → List ℕ → ℕ → ℕ → Blocks → Blocks
-blocks_written id len at bytes index zero blocks = blocks
-blocks_written id len at bytes index (suc n) blocks =
-    blocks_written id len at bytes (index + 1) n
-    (put pair_cmp (id, index) (block_written len at bytes index (find pair_cmp (id, index) blocks)) blocks)
+abbrev pub blocks_written : ℕ → ℕ → ℕ → List ℕ → (ℕ → ℕ) → ℕ → ℕ → Blocks → Blocks
+blocks_written id len at bytes stood index zero blocks = blocks
+blocks_written id len at bytes stood index (suc n) blocks =
+    blocks_written id len at bytes stood (index + 1) n
+    (put pair_cmp (id, index) (block_written len at bytes stood index) blocks)
 
 abbrev pub with_blocks : Blocks → Inside → Inside
 with_blocks blocks i = record i { blocks = blocks }
 
--- a file that reaches up to the end of these bytes at least, and each block that they touch, whole
+-- A file that reaches up to the end of these bytes at least, and each block that they touch, whole: what they leave of
+-- it is what the file had there, also where that came from a base.
 abbrev pub file_written : ℕ → ℕ → List ℕ → FileRecord → Inside → Inside
 file_written id at bytes file i = record i {
   files = put nat_cmp id (reaching (at + length bytes) file) i.files;
-  blocks = blocks_written id (max file.length (at + length bytes)) at bytes (first_touched at)
+  blocks = blocks_written id (max file.length (at + length bytes)) at bytes (stood_at i id file) (first_touched at)
       (touched at (length bytes)) i.blocks;
 }
 

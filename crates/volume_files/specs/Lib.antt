@@ -8,3 +8,4 @@ pub mod Stretches
 pub mod Lengths
 pub mod Insides
 pub mod Rows
+pub mod Edges

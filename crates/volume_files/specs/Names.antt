@@ -2,6 +2,7 @@
 use Rattle.std.specs.Prelude.{◌≡◌, ◌≤◌, ◌<◌, ◌==◌, ℕ, Bool, true, false, not, List, length, Some, None, Err}
 use Rattle.std.specs.Ordering.{eq_by_cmp}
 use Rattle.std.specs.FinMap.Entries.{find}
+use Rattle.groundwork.specs.declared.limits.TheConstants.{MOST_NAME_BYTES}
 use Rattle.byte_map.specs.Words.{bytes_cmp}
 use Rattle.plain_volume.specs.Volume.{Volume, is_lawful}
 use Rattle.plain_volume.specs.Step.{plain}
@@ -48,9 +49,9 @@ pub record IsRenaming (t : Typed) (from to : List ℕ) (id : ℕ) : Type 0 where
   pub named : find bytes_cmp from t.names ≡ Some id
   pub free : find bytes_cmp to t.names ≡ None
 
--- names of at most 255 bytes
+-- names of no more bytes than one may have
 abbrev pub AreShort : List (List ℕ × ℕ) → Type 0
-AreShort names = Each (λ name id. length name ≤ 255) names
+AreShort names = Each (λ name id. length name ≤ MOST_NAME_BYTES) names
 
 -- the plain machine refuses a call so, before any want
 pub record IsRefused (v : Volume) (call : Call) (fault : Fault) : Type 0 where

@@ -61,10 +61,10 @@ AreAhead start at bytes run image =
 abbrev pub without_first : Run → Run
 without_first run = record { first = run.first + 1; count = run.count - 1 }
 
--- a cluster has the block as it is once the bytes were written: an extent named what stood there in an older image
-abbrev pub HasLaid : ℕ → ℕ → List ℕ → Option Extent → List ℕ → List ℕ → ℕ → Type 0
-HasLaid start at bytes was older image cluster = (o : ℕ) → o < CLUSTER_BYTES → get_or (cluster_bytes cluster image) o 0
-    ≡ laid at bytes (start + o) (get_or (named_bytes was older) o 0)
+-- a cluster has the block as it is once the bytes were written, where these stood in the file
+abbrev pub HasLaid : ℕ → ℕ → List ℕ → (ℕ → ℕ) → List ℕ → ℕ → Type 0
+HasLaid start at bytes stood image cluster =
+    (o : ℕ) → o < CLUSTER_BYTES → get_or (cluster_bytes cluster image) o 0 ≡ laid at bytes (start + o) (stood (start + o))
 
 -- ---- tables
 

@@ -1,11 +1,11 @@
 //! A block of a file is made anew and set.
 
-ghost use Rattle.std.specs.Prelude.{◌≡◌, ◌⊎◌, ◌↔◌, ◌≤◌, ◌<◌, ◌+◌, ◌-◌, ◌*◌, ◌^◌, ℕ, length, slice_index, ◌++◌, true};
-ghost use Rattle.std.specs.Prelude.{false, min, take, drop, IfOk, IfSome, IsSome, OnOk, OnErr, IsErrOf, IsTrue, Some};
+ghost use Rattle.std.specs.Prelude.{◌≡◌, ◌⊎◌, ◌↔◌, ◌≤◌, ◌<◌, ◌+◌, ◌-◌, ◌*◌, ℕ, length, slice_index, ◌++◌, true};
+ghost use Rattle.std.specs.Prelude.{false, min, take, drop, IfOk, OnOk, OnErr, IsErrOf, IsTrue, Some};
 ghost use Rattle.std.specs.FinMap.{find};
 ghost use Rattle.vdisk.specs.Causes.{Rose};
 ghost use Rattle.plain_volume.specs.declared.limits.TheConstants.{MOST_BYTES_OF_A_CALL, MOST_BYTES_OF_A_FILE};
-ghost use Rattle.cluster_space.specs.States.{IsIn, free_in};
+ghost use Rattle.cluster_space.specs.States.{free_in};
 ghost use Rattle.cluster_space.specs.declared.state.State.TheVariants.{Deferred, Free};
 ghost use Rattle.table_records.specs.Keys.{pair_cmp};
 ghost use Rattle.table_records.specs.declared.records.Extent.{Extent};
@@ -18,11 +18,13 @@ ghost use Rattle.volume_tables.specs.declared.room.TheConstants.{MOST_RECORDS};
 ghost use Rattle.volume_tables.specs.Clusters.{HasState};
 ghost use Rattle.volume_tables.specs.Frames.{AreFree, NamesNoFree};
 ghost use Rattle.volume_tables.specs.Tables.{tables_now, inside_now, states_of, staged_of, checkpoint_of, disk_of};
-ghost use Rattle.volume_tables.specs.Tables.{clusters_in, stopped, new_bytes, IsTables, Leaves};
+ghost use Rattle.volume_tables.specs.Tables.{stopped, new_bytes, IsTables, Leaves};
+ghost use Rattle.volume_files.specs.Edges.{edge_byte};
 ghost use Rattle.volume_files.specs.Insides.{block_written};
-ghost use Rattle.volume_files.specs.Writing.{laid, named_bytes, without_first, AreAhead, AreFilled, HasLaid, IsReadable};
-ghost use Rattle.volume_files.specs.Writing.{IsReadFirst, IsNoFreer, LosesNone};
+ghost use Rattle.volume_files.specs.Writing.{laid, without_first, AreAhead, AreFilled, HasLaid};
+ghost use Rattle.volume_files.specs.Writing.{IsNoFreer, LosesNone};
 
+use crate::edges::Edges;
 use cluster_space::Run;
 use plain_volume::Fault;
 use vdisk::Disk;
@@ -33,7 +35,7 @@ use volume_tables::{Extent, FileRecord, Tables};
 pub(crate) const BLOCK: u64 = CLUSTER_BYTES as u64;
 
 /// The same as the length of an array.
-const BLOCK_BYTES: usize = BLOCK as usize;
+pub(crate) const BLOCK_BYTES: usize = BLOCK as usize;
 
 /// Puts bytes in the place of others.
 fn put_part(block: &mut [u8], from: usize, part: &[u8])
@@ -59,58 +61,8 @@ fn lay_over(block: &mut [u8; BLOCK_BYTES], start: u64, at: u64, bytes: &[u8])
     put_part(block, from, &bytes[skipped..skipped + count]);
 }
 
-/// Reads the bytes that an extent names into the front of a block.
-fn read_extent<D: Disk>(
-    tables: &mut Tables<D>,
-    extent: Extent,
-    block: &mut [u8],
-) -> Result<(), Fault>
-    requires readable { IsReadable tables.old.clusters extent }
-    requires whole { length block.old ≡ CLUSTER_BYTES }
-    ensures bytes { (stored : Typed) → IsTables tables.old stored → OnOk result (block.new ≡
-        block_of extent (disk_of tables.old).image ++ drop extent.valid block.old) }
-    ensures now { tables_now tables.new ≡ tables_now tables.old }
-    ensures states { states_of tables.new ≡ states_of tables.old }
-    ensures image { (disk_of tables.new).image ≡ (disk_of tables.old).image }
-    ensures leaves { Leaves tables.old tables.new }
-    ensures staged { staged_of tables.new ≡ staged_of tables.old }
-    ensures checkpoint { checkpoint_of tables.new ≡ checkpoint_of tables.old }
-    ensures running { stopped tables.new ≡ stopped tables.old }
-    ensures failed { OnErr result (IsErrOf result Fault.Failed ×
-        Rose (disk_of tables.old).faults (disk_of tables.new).faults) }
-{
-    tables.read_run(extent.cluster, 0, &mut block[..extent.valid as usize])
-}
-
-/// Reads the bytes that an extent names, if there is one, into a block of zeros.
-fn read_block<D: Disk>(
-    tables: &mut Tables<D>,
-    was: Option<Extent>,
-    block: &mut [u8; BLOCK_BYTES],
-) -> Result<(), Fault>
-    requires readable { IfSome was (IsReadable tables.old.clusters) }
-    requires zeros { (o : ℕ) → slice_index block.old o ≡ 0 }
-    ensures bytes { (stored : Typed) → IsTables tables.old stored → OnOk result ((o : ℕ) → o < CLUSTER_BYTES →
-        slice_index block.new o ≡ slice_index (named_bytes was (disk_of tables.old).image) o) }
-    ensures now { tables_now tables.new ≡ tables_now tables.old }
-    ensures states { states_of tables.new ≡ states_of tables.old }
-    ensures image { (disk_of tables.new).image ≡ (disk_of tables.old).image }
-    ensures leaves { Leaves tables.old tables.new }
-    ensures staged { staged_of tables.new ≡ staged_of tables.old }
-    ensures checkpoint { checkpoint_of tables.new ≡ checkpoint_of tables.old }
-    ensures running { stopped tables.new ≡ stopped tables.old }
-    ensures failed { OnErr result (IsErrOf result Fault.Failed ×
-        Rose (disk_of tables.old).faults (disk_of tables.new).faults) }
-    ensures read { OnErr result (IsSome was) }
-{
-    match was {
-        None => Ok(()),
-        Some(extent) => read_extent(tables, extent, block),
-    }
-}
-
 /// Whether so many bytes that belong at the place `at` of a file fill its block that begins at `start`.
-fn fills(start: u64, at: u64, count: usize) -> bool
+pub(crate) fn fills(start: u64, at: u64, count: usize) -> bool
     requires low { at ≤ MOST_BYTES_OF_A_FILE }
     requires block_low { start ≤ MOST_BYTES_OF_A_FILE }
     requires short { count ≤ MOST_BYTES_OF_A_CALL }
@@ -119,67 +71,46 @@ fn fills(start: u64, at: u64, count: usize) -> bool
     at <= start && start + BLOCK <= at + count as u64
 }
 
-/// The block of a file that begins at `start`, once bytes were written at the place `at` of the file. Some of them lie
-/// in the block, and its extent was `was`. A block that they fill is not read.
-fn block_with<D: Disk>(
-    tables: &mut Tables<D>,
-    was: Option<Extent>,
-    start: u64,
-    at: u64,
-    bytes: &[u8],
-) -> Result<[u8; BLOCK_BYTES], Fault>
-    requires readable { IfSome was (IsReadable tables.old.clusters) }
+/// A block of a file, once bytes were written at the place `at` of the file, some of which lie in it. What they leave of
+/// it is that of its edge.
+fn block_with(edges: &Edges, index: u32, at: u64, bytes: &[u8]) -> [u8; BLOCK_BYTES]
     requires short { length bytes.now ≤ MOST_BYTES_OF_A_CALL }
     requires low { at ≤ MOST_BYTES_OF_A_FILE }
-    requires block_low { start ≤ MOST_BYTES_OF_A_FILE }
-    requires before { at < start + CLUSTER_BYTES }
-    requires behind { start < at + length bytes.now }
-    ensures bytes { (stored : Typed) → IsTables tables.old stored → IfOk result (λ block. (o : ℕ) → o < CLUSTER_BYTES →
-        slice_index block o ≡
-        laid at bytes.now (start + o) (slice_index (named_bytes was (disk_of tables.old).image) o)) }
-    ensures now { tables_now tables.new ≡ tables_now tables.old }
-    ensures states { states_of tables.new ≡ states_of tables.old }
-    ensures image { (disk_of tables.new).image ≡ (disk_of tables.old).image }
-    ensures leaves { Leaves tables.old tables.new }
-    ensures staged { staged_of tables.new ≡ staged_of tables.old }
-    ensures checkpoint { checkpoint_of tables.new ≡ checkpoint_of tables.old }
-    ensures running { stopped tables.new ≡ stopped tables.old }
-    ensures failed { OnErr result (IsErrOf result Fault.Failed ×
-        Rose (disk_of tables.old).faults (disk_of tables.new).faults) }
-    ensures read { OnErr result (IsReadFirst start at (length bytes.now) was) }
+    requires block_low { CLUSTER_BYTES * index ≤ MOST_BYTES_OF_A_FILE }
+    requires before { at < CLUSTER_BYTES * index + CLUSTER_BYTES }
+    requires behind { CLUSTER_BYTES * index < at + length bytes.now }
+    ensures { (o : ℕ) → o < CLUSTER_BYTES → slice_index result o ≡
+        laid at bytes.now (CLUSTER_BYTES * index + o) (edge_byte edges.now at (CLUSTER_BYTES * index + o)) }
 {
-    let beside = if fills(start, at, bytes.len()) {
-        None
+    let mut block = if index as u64 == at / BLOCK {
+        edges.first
     } else {
-        was
+        edges.last
     };
-    let mut block = [0; BLOCK_BYTES];
-    read_block(tables, beside, &mut block)?;
-    lay_over(&mut block, start, at, bytes);
-    Ok(block)
+    lay_over(&mut block, BLOCK * index as u64, at, bytes);
+    block
 }
 
-/// Writes the block that begins at `start` into a free cluster, as it is once bytes were written at the place `at` of
-/// the file, which do not fill it; its extent was `was`. Answers the run of that cluster.
+/// Writes a block of a file into a free cluster, as it is once bytes were written at the place `at` of the file, which
+/// do not fill it. Answers the run of that cluster.
 fn write_alone<D: Disk>(
     tables: &mut Tables<D>,
-    was: Option<Extent>,
-    start: u64,
+    edges: &Edges,
+    index: u32,
     at: u64,
     bytes: &[u8],
 ) -> Result<Run, Fault>
     requires running { stopped tables.old ≡ false }
-    requires readable { IfSome was (IsReadable tables.old.clusters) }
     requires short { length bytes.now ≤ MOST_BYTES_OF_A_CALL }
     requires low { at ≤ MOST_BYTES_OF_A_FILE }
-    requires block_low { start ≤ MOST_BYTES_OF_A_FILE }
-    requires before { at < start + CLUSTER_BYTES }
-    requires behind { start < at + length bytes.now }
+    requires block_low { CLUSTER_BYTES * index ≤ MOST_BYTES_OF_A_FILE }
+    requires before { at < CLUSTER_BYTES * index + CLUSTER_BYTES }
+    requires behind { CLUSTER_BYTES * index < at + length bytes.now }
     requires some { 0 < free_in (states_of tables.old) }
     ensures one { IfOk result (λ run. run.count ≡ 1) }
     ensures free { IfOk result (λ run. AreFree tables.old.clusters (states_of tables.old) run) }
-    ensures block { (stored : Typed) → IsTables tables.old stored → IfOk result (λ run. HasLaid start at bytes.now was
-        (disk_of tables.old).image (disk_of tables.new).image run.first) }
+    ensures block { (stored : Typed) → IsTables tables.old stored → IfOk result (λ run.
+        HasLaid (CLUSTER_BYTES * index) at bytes.now (edge_byte edges.now at) (disk_of tables.new).image run.first) }
     ensures now { tables_now tables.new ≡ tables_now tables.old }
     ensures states { states_of tables.new ≡ states_of tables.old }
     ensures same { inside_now tables.new ≡ inside_now tables.old }
@@ -191,9 +122,9 @@ fn write_alone<D: Disk>(
     ensures runs { OnOk result (stopped tables.new ≡ false) }
     ensures failed { OnErr result (IsErrOf result Fault.Failed ×
         Rose (disk_of tables.old).faults (disk_of tables.new).faults) }
-    ensures halts { OnErr result ((stopped tables.new ≡ true) ⊎ IsReadFirst start at (length bytes.now) was) }
+    ensures stops { OnErr result (stopped tables.new ≡ true) }
 {
-    let block = block_with(tables, was, start, at, bytes)?;
+    let block = block_with(edges, index, at, bytes);
     tables.write_free_run(&block)
 }
 
@@ -231,36 +162,35 @@ fn write_filled<D: Disk>(
     tables.write_free_run(&bytes[(start - at) as usize..])
 }
 
-/// Sees to it that a free cluster has the block of a file that begins at `start`, as it is once bytes were written at
-/// the place `at` of the file; its extent was `was`. Such a cluster was written ahead, or it is written now, and those
-/// of the blocks behind it which the bytes fill with it. Answers the clusters written ahead, from this block on.
+/// Sees to it that a free cluster has a block of a file, as it is once bytes were written at the place `at` of the file.
+/// Such a cluster was written ahead, or it is written now, and those of the blocks behind it which the bytes fill with
+/// it. Answers the clusters written ahead, from this block on.
 fn write_ahead<D: Disk>(
     tables: &mut Tables<D>,
-    was: Option<Extent>,
-    start: u64,
+    edges: &Edges,
+    index: u32,
     at: u64,
     bytes: &[u8],
     ahead: Run,
 ) -> Result<Run, Fault>
     requires running { stopped tables.old ≡ false }
-    requires readable { IfSome was (IsReadable tables.old.clusters) }
     requires short { length bytes.now ≤ MOST_BYTES_OF_A_CALL }
     requires low { at ≤ MOST_BYTES_OF_A_FILE }
-    requires block_low { start ≤ MOST_BYTES_OF_A_FILE }
-    requires before { at < start + CLUSTER_BYTES }
-    requires behind { start < at + length bytes.now }
+    requires block_low { CLUSTER_BYTES * index ≤ MOST_BYTES_OF_A_FILE }
+    requires before { at < CLUSTER_BYTES * index + CLUSTER_BYTES }
+    requires behind { CLUSTER_BYTES * index < at + length bytes.now }
     requires some { 0 < free_in (states_of tables.old) }
     requires free { AreFree tables.old.clusters (states_of tables.old) ahead }
-    requires filled { AreFilled start at (length bytes.now) ahead.count }
+    requires filled { AreFilled (CLUSTER_BYTES * index) at (length bytes.now) ahead.count }
     ensures some { IfOk result (λ run. 0 < run.count) }
     ensures free { IfOk result (λ run. AreFree tables.old.clusters (states_of tables.old) run) }
-    ensures filled { IfOk result (λ run. AreFilled (start + CLUSTER_BYTES) at (length bytes.now) (run.count - 1)) }
+    ensures filled { IfOk result (λ run. AreFilled (CLUSTER_BYTES * index + CLUSTER_BYTES) at (length bytes.now) (run.count - 1)) }
     ensures block { (stored : Typed) → IsTables tables.old stored →
-        AreAhead start at bytes.now ahead (disk_of tables.old).image → IfOk result (λ run. HasLaid start at bytes.now was
-        (disk_of tables.old).image (disk_of tables.new).image run.first) }
+        AreAhead (CLUSTER_BYTES * index) at bytes.now ahead (disk_of tables.old).image → IfOk result (λ run.
+        HasLaid (CLUSTER_BYTES * index) at bytes.now (edge_byte edges.now at) (disk_of tables.new).image run.first) }
     ensures ahead { (stored : Typed) → IsTables tables.old stored →
-        AreAhead start at bytes.now ahead (disk_of tables.old).image → IfOk result (λ run.
-        AreAhead (start + CLUSTER_BYTES) at bytes.now (without_first run) (disk_of tables.new).image) }
+        AreAhead (CLUSTER_BYTES * index) at bytes.now ahead (disk_of tables.old).image → IfOk result (λ run.
+        AreAhead (CLUSTER_BYTES * index + CLUSTER_BYTES) at bytes.now (without_first run) (disk_of tables.new).image) }
     ensures now { tables_now tables.new ≡ tables_now tables.old }
     ensures states { states_of tables.new ≡ states_of tables.old }
     ensures same { inside_now tables.new ≡ inside_now tables.old }
@@ -272,15 +202,16 @@ fn write_ahead<D: Disk>(
     ensures runs { OnOk result (stopped tables.new ≡ false) }
     ensures failed { OnErr result (IsErrOf result Fault.Failed ×
         Rose (disk_of tables.old).faults (disk_of tables.new).faults) }
-    ensures halts { OnErr result ((stopped tables.new ≡ true) ⊎ IsReadFirst start at (length bytes.now) was) }
+    ensures stops { OnErr result (stopped tables.new ≡ true) }
 {
     if ahead.count > 0 {
         return Ok(ahead);
     }
+    let start = BLOCK * index as u64;
     if fills(start, at, bytes.len()) {
         return write_filled(tables, start, at, bytes);
     }
-    write_alone(tables, was, start, at, bytes)
+    write_alone(tables, edges, index, at, bytes)
 }
 
 /// Takes a free cluster and names it as the block of a key, of which `valid` bytes are the file's; the key's extent was
@@ -337,13 +268,15 @@ pub(crate) struct Written {
 }
 
 /// Writes the part of bytes that belong at the place `at` of a file which lies in one of its blocks: `key` is the
-/// file's id and the block's number, `was` the block's extent. The file is as long as its record `grown` says, and
-/// `ahead` are clusters that were written ahead, for this block and those behind it.
+/// file's id and the block's number, `was` the block's extent. What the bytes leave of the block is that of its edge. The
+/// file is as long as its record `grown` says, and `ahead` are clusters that were written ahead, for this block and those
+/// behind it.
 pub(crate) fn write_block<D: Disk>(
     tables: &mut Tables<D>,
     key: (u64, u32),
     was: Option<Extent>,
     grown: FileRecord,
+    edges: &Edges,
     at: u64,
     bytes: &[u8],
     ahead: Run,
@@ -371,14 +304,10 @@ pub(crate) fn write_block<D: Disk>(
     ensures rules { RulesHold tables.new.clusters (with_file key.0 grown (tables_now tables.new)) }
     ensures inside { IfOk result (λ w. inside_now tables.new ≡
         with_block key (block_of w.extent (disk_of tables.new).image) (inside_now tables.old)) }
-    ensures written { (stored : Typed) → IsTables tables.old stored →
-        AreAhead (CLUSTER_BYTES * key.1) at bytes.now ahead (disk_of tables.old).image → IfOk result (λ w. (o : ℕ) → o < CLUSTER_BYTES →
-        CLUSTER_BYTES * key.1 + o < grown.length → slice_index (block_of w.extent (disk_of tables.new).image) o ≡
-        laid at bytes.now (CLUSTER_BYTES * key.1 + o) (slice_index (named_bytes was (disk_of tables.old).image) o)) }
     ensures block { (stored : Typed) → IsTables tables.old stored →
         AreAhead (CLUSTER_BYTES * key.1) at bytes.now ahead (disk_of tables.old).image → IfOk result (λ w.
-        block_of w.extent (disk_of tables.new).image ≡ block_written grown.length at bytes.now key.1
-        (find pair_cmp key (inside_now tables.old).blocks)) }
+        block_of w.extent (disk_of tables.new).image ≡ block_written grown.length at bytes.now
+        (edge_byte edges.now at) key.1) }
     ensures frame { (t : Typed) → NamesNoFree tables.old.clusters (states_of tables.old) t →
         inside_at t (disk_of tables.new).image ≡ inside_at t (disk_of tables.old).image }
     ensures leaves { Leaves tables.old tables.new }
@@ -394,12 +323,10 @@ pub(crate) fn write_block<D: Disk>(
     ensures stops { stopped tables.new ≡ true → IsErrOf result Fault.Failed }
     ensures refused { OnErr result (IsErrOf result Fault.Failed ⊎ IsErrOf result Fault.Memory) }
     ensures failed { IsErrOf result Fault.Failed → Rose (disk_of tables.old).faults (disk_of tables.new).faults }
-    ensures halts { IsErrOf result Fault.Failed →
-        (stopped tables.new ≡ true) ⊎ IsReadFirst (CLUSTER_BYTES * key.1) at (length bytes.now) was }
+    ensures halts { IsErrOf result Fault.Failed → stopped tables.new ≡ true }
 {
-    let start = BLOCK * key.1 as u64;
-    let ready = write_ahead(tables, was, start, at, bytes, ahead)?;
-    let valid = BLOCK.min(grown.length - start) as u16;
+    let ready = write_ahead(tables, edges, key.1, at, bytes, ahead)?;
+    let valid = BLOCK.min(grown.length - BLOCK * key.1 as u64) as u16;
     let extent = name_block(tables, key, was, ready.first, valid)?;
     Ok(Written {
         extent,

@@ -3,6 +3,7 @@
 ghost use Rattle.std.specs.Prelude.{◌≡◌, ◌⊎◌, ◌≤◌, ◌<◌, ◌+◌, ◌*◌, ℕ, T, length, true, false, OnOk, OnErr};
 ghost use Rattle.std.specs.Prelude.{IsErrOf, Some};
 ghost use Rattle.std.specs.FinMap.{find, is_sorted};
+ghost use Rattle.volume_inside.specs.declared.layout.TheConstants.{CLUSTER_BYTES, MOST_CLUSTERS};
 ghost use Rattle.vdisk.specs.Causes.{Rose};
 ghost use Rattle.plain_volume.specs.declared.limits.TheConstants.{MOST_BYTES_OF_A_CALL, MOST_BYTES_OF_A_FILE};
 ghost use Rattle.cluster_space.specs.States.{IsIn, free_in};
@@ -10,7 +11,6 @@ ghost use Rattle.cluster_space.specs.declared.state.State.TheVariants.{Deferred}
 ghost use Rattle.table_records.specs.Keys.{pair_cmp};
 ghost use Rattle.table_records.specs.declared.records.Extent.{Extent};
 ghost use Rattle.table_records.specs.declared.records.FileRecord.{FileRecord};
-ghost use Rattle.volume_inside.specs.declared.layout.TheConstants.{CLUSTER_BYTES};
 ghost use Rattle.volume_inside.specs.Changes.{with_extent, with_file};
 ghost use Rattle.volume_inside.specs.Inside.{inside_at};
 ghost use Rattle.volume_inside.specs.Layout.{half_bytes, first_data_cluster};
@@ -23,12 +23,13 @@ ghost use Rattle.volume_tables.specs.Frames.{AreFree, NamesNoFree};
 ghost use Rattle.volume_tables.specs.Tables.{tables_now, inside_now, states_of, staged_of, checkpoint_of, disk_of};
 ghost use Rattle.volume_tables.specs.Tables.{stopped, IsTables, Leaves};
 ghost use Rattle.volume_tables.specs.Spending.{Spends};
+ghost use Rattle.volume_files.specs.Edges.{edge_byte};
 ghost use Rattle.volume_files.specs.Insides.{blocks_written, with_blocks};
 ghost use Rattle.volume_files.specs.Needs.{missing};
-ghost use Rattle.volume_files.specs.Own.{AreOwnBeside};
-ghost use Rattle.volume_files.specs.Writing.{blocks_up_to, laid_from, AreAhead, AreExtentsSet, AreFilled, LosesNone, ReadsFirst};
+ghost use Rattle.volume_files.specs.Writing.{blocks_up_to, AreAhead, AreExtentsSet, AreFilled, LosesNone};
 
 use crate::block::{BLOCK, write_block};
+use crate::edges::Edges;
 use cluster_space::Run;
 use plain_volume::Fault;
 use vdisk::Disk;
@@ -43,7 +44,7 @@ fn restore_extent<D: Disk>(
     was: Option<Extent>,
 )
     requires room { staged_of tables.old + 31 ≤ MOST_RECORDS }
-    requires low { key.1 < 1048576 }
+    requires low { key.1 < MOST_CLUSTERS }
     requires there { find pair_cmp key (tables_now tables.old).extents ≡ Some named }
     requires deferred { (o : Extent) → was ≡ Some o →
         HasState tables.old.clusters (states_of tables.old) Deferred o.cluster }
@@ -64,13 +65,15 @@ fn restore_extent<D: Disk>(
     }
 }
 
-/// Writes the part of bytes that belong at the place `at` of a file which lies in its blocks from `index` on. The file
-/// is as long as its record `grown` says, and `ahead` are clusters that were written ahead for these blocks. A refusal
-/// leaves the tables as they are. It calls itself once for each block, at most 257 times.
+/// Writes the part of bytes that belong at the place `at` of a file which lies in its blocks from `index` on. What they
+/// leave of these blocks is that of the edges. The file is as long as its record `grown` says, and `ahead` are clusters
+/// that were written ahead for these blocks. A refusal leaves the tables as they are. It calls itself once for each
+/// block, at most 257 times.
 pub(crate) fn write_blocks<D: Disk>(
     tables: &mut Tables<D>,
     file: u64,
     grown: FileRecord,
+    edges: &Edges,
     at: u64,
     bytes: &[u8],
     index: u32,
@@ -82,7 +85,6 @@ pub(crate) fn write_blocks<D: Disk>(
     requires reach { at + length bytes.now ≤ grown.length }
     requires most { grown.length ≤ MOST_BYTES_OF_A_FILE }
     requires from_first { at < CLUSTER_BYTES * index + CLUSTER_BYTES }
-    requires own { AreOwnBeside (with_file file grown (tables_now tables.old)) file at (length bytes.now) }
     requires clusters { blocks_up_to (at + length bytes.now) index ≤ free_in (states_of tables.old) }
     requires room { staged_of tables.old + 55 * blocks_up_to (at + length bytes.now) index ≤ MOST_RECORDS }
     requires fits { checkpoint_of tables.old +
@@ -96,13 +98,9 @@ pub(crate) fn write_blocks<D: Disk>(
     ensures rules { OnOk result (RulesHold tables.new.clusters (with_file file grown (tables_now tables.new))) }
     ensures others { OnOk result ((other p : ℕ) (record_of : FileRecord) → (other ≡ file → ⊥) →
         cell (inside_now tables.new) other record_of p ≡ cell (inside_now tables.old) other record_of p) }
-    ensures cells { (stored : Typed) → IsTables tables.old stored →
-        AreAhead (CLUSTER_BYTES * index) at bytes.now ahead (disk_of tables.old).image → OnOk result ((p : ℕ) → p < grown.length →
-        cell (inside_now tables.new) file grown p ≡
-        laid_from (CLUSTER_BYTES * index) at bytes.now p (cell (inside_now tables.old) file grown p)) }
     ensures inside { (stored : Typed) → IsTables tables.old stored →
         AreAhead (CLUSTER_BYTES * index) at bytes.now ahead (disk_of tables.old).image → OnOk result (inside_now tables.new ≡
-        with_blocks (blocks_written file grown.length at bytes.now index
+        with_blocks (blocks_written file grown.length at bytes.now (edge_byte edges.now at) index
         (blocks_up_to (at + length bytes.now) index) (inside_now tables.old).blocks) (inside_now tables.old)) }
     ensures frame { (t : Typed) → NamesNoFree tables.old.clusters (states_of tables.old) t →
         inside_at t (disk_of tables.new).image ≡ inside_at t (disk_of tables.old).image }
@@ -120,16 +118,24 @@ pub(crate) fn write_blocks<D: Disk>(
     ensures stops { stopped tables.new ≡ true → IsErrOf result Fault.Failed }
     ensures refused { OnErr result (IsErrOf result Fault.Failed ⊎ IsErrOf result Fault.Memory) }
     ensures failed { IsErrOf result Fault.Failed → Rose (disk_of tables.old).faults (disk_of tables.new).faults }
-    ensures halts { IsErrOf result Fault.Failed → (stopped tables.new ≡ true) ⊎
-        ReadsFirst file (CLUSTER_BYTES * index) at (length bytes.now) (tables_now tables.old) }
+    ensures halts { IsErrOf result Fault.Failed → stopped tables.new ≡ true }
 {
     if BLOCK * index as u64 >= at + bytes.len() as u64 {
         return Ok(());
     }
     let key = (file, index);
     let was = tables.get_extent(key);
-    let written = write_block(tables, key, was, grown, at, bytes, ahead)?;
-    match write_blocks(tables, file, grown, at, bytes, index + 1, written.ahead) {
+    let written = write_block(tables, key, was, grown, edges, at, bytes, ahead)?;
+    match write_blocks(
+        tables,
+        file,
+        grown,
+        edges,
+        at,
+        bytes,
+        index + 1,
+        written.ahead,
+    ) {
         Ok(()) => Ok(()),
         Err(fault) => {
             restore_extent(tables, key, written.extent, was);

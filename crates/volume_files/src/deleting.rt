@@ -3,6 +3,7 @@ ghost use Rattle.std.specs.Prelude.{◌≡◌, ◌≤◌, ◌+◌, ◌^◌, ◌<
 ghost use Rattle.std.specs.Prelude.{OnOk, OnErr};
 ghost use Rattle.std.specs.FinMap.Entries.{find};
 ghost use Rattle.std.specs.Option.{option_map};
+ghost use Rattle.groundwork.specs.declared.limits.TheConstants.{LAST_ID, MOST_NAME_BYTES};
 ghost use Rattle.byte_map.specs.Words.{bytes_cmp, next_in};
 ghost use Rattle.plain_volume.specs.Step.{plain, after};
 ghost use Rattle.plain_volume.specs.Replies.{done_reply};
@@ -31,9 +32,9 @@ fn copy_next<D: Disk>(
     name: &[u8],
     out: &mut [u8; MOST_BYTES_OF_A_NAME],
 ) -> Option<usize>
-    requires short { length name.now ≤ 255 }
+    requires short { length name.now ≤ MOST_NAME_BYTES }
     requires names { AreShort (tables_now tables.now).names }
-    ensures within { IfSome result (λ n. n ≤ 255) }
+    ensures within { IfSome result (λ n. n ≤ MOST_NAME_BYTES) }
     ensures is { option_map (λ n. take n out.new) result ≡
         option_map (λ p. p.0) (next_in bytes_cmp name.now (tables_now tables.now).names) }
 {
@@ -48,7 +49,7 @@ fn copy_next<D: Disk>(
 
 /// Drops a name, and no other.
 pub(crate) fn drop_one_name<D: Disk>(tables: &mut Tables<D>, name: &[u8])
-    requires short { length name.now ≤ 255 }
+    requires short { length name.now ≤ MOST_NAME_BYTES }
     requires names { AreShort (tables_now tables.old).names }
     requires room { staged_of tables.old + (262 + length name.now) ≤ MOST_RECORDS }
     ensures tables { tables_now tables.new ≡ keep_names (is_other name.now) (tables_now tables.old) }
@@ -63,9 +64,9 @@ pub(crate) fn drop_one_name<D: Disk>(tables: &mut Tables<D>, name: &[u8])
 
 /// Drops a name, its file and the blocks of that.
 fn drop_all<D: Disk>(tables: &mut Tables<D>, name: &[u8], id: u64)
-    requires short { length name.now ≤ 255 }
+    requires short { length name.now ≤ MOST_NAME_BYTES }
     requires names { AreShort (tables_now tables.old).names }
-    requires id { id < 2 ^ 48 }
+    requires id { id ≤ LAST_ID }
     requires room { staged_of tables.old + (316 + length name.now) ≤ MOST_RECORDS }
     ensures tables { tables_now tables.new ≡ without_name name.now id (tables_now tables.old) }
     ensures stages { Stages (delete_bytes (tables_now tables.old).names name.now) tables.old tables.new }

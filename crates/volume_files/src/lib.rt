@@ -8,6 +8,7 @@ mod block;
 mod blocks;
 mod creating;
 mod deleting;
+mod edges;
 mod lookup;
 mod reading;
 mod renaming;
@@ -18,8 +19,9 @@ mod writing;
 
 pub use creating::create;
 pub use deleting::delete;
+pub use edges::{Edges, read_edges};
 pub use lookup::find_file;
 pub use reading::read_plain;
 pub use renaming::rename;
 pub use resizing::set_length;
-pub use writing::write_plain;
+pub use writing::{make_room_for_write, write_plain, write_with_edges, write_with_room};

@@ -1,6 +1,7 @@
 // Files get other names.
 ghost use Rattle.std.specs.Prelude.{◌≡◌, ◌≤◌, ◌+◌, ℕ, false, true, length, Some, IfOk, IfErr, IsErrOf, OnOk, OnErr};
 ghost use Rattle.std.specs.FinMap.Entries.{find};
+ghost use Rattle.groundwork.specs.declared.limits.TheConstants.{MOST_NAME_BYTES};
 ghost use Rattle.byte_map.specs.Words.{bytes_cmp};
 ghost use Rattle.plain_volume.specs.Step.{plain, after};
 ghost use Rattle.plain_volume.specs.Replies.{done_reply};
@@ -54,8 +55,8 @@ fn replace_name<D: Disk>(
     to: &[u8],
     id: u64,
 ) -> Result<(), Fault>
-    requires short { length from.now ≤ 255 }
-    requires short_to { length to.now ≤ 255 }
+    requires short { length from.now ≤ MOST_NAME_BYTES }
+    requires short_to { length to.now ≤ MOST_NAME_BYTES }
     requires names { AreShort (tables_now tables.old).names }
     requires room { staged_of tables.old + (276 + (length from.now + length to.now)) ≤ MOST_RECORDS }
     requires fits { checkpoint_of tables.old + (14 + length to.now) ≤ half_bytes (clusters_in tables.old) }

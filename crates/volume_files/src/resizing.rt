@@ -2,6 +2,7 @@
 ghost use Rattle.std.specs.Prelude.{◌≡◌, ◌≤◌, ◌<◌, ◌+◌, ◌^◌, ◌/◌, ◌%◌, ℕ, Some, OnOk, OnErr, IsErrOf, false, true};
 ghost use Rattle.std.specs.Ordering.{nat_cmp};
 ghost use Rattle.std.specs.FinMap.{find};
+ghost use Rattle.groundwork.specs.declared.limits.TheConstants.{LAST_ID};
 ghost use Rattle.table_records.specs.Keys.{pair_cmp};
 ghost use Rattle.plain_volume.specs.Replies.{done_reply};
 ghost use Rattle.plain_volume.specs.Step.{plain, after};
@@ -74,7 +75,7 @@ fn cut_end<D: Disk>(tables: &mut Tables<D>, id: u64, length: u64)
 
 /// Cuts the blocks of a file to its end, where it has this length.
 fn cut<D: Disk>(tables: &mut Tables<D>, id: u64, length: u64)
-    requires id { id < 2 ^ 48 }
+    requires id { id ≤ LAST_ID }
     requires short { length ≤ MOST_BYTES_OF_A_FILE }
     requires room { staged_of tables.old + (31 + set_at_end (tables_now tables.old) id length) ≤ MOST_RECORDS }
     ensures tables { tables_now tables.new ≡ cut_at id length (tables_now tables.old) }
@@ -100,7 +101,7 @@ fn record_of_length(file: FileRecord, length: u64) -> FileRecord
 
 /// Gives a file that is there another length.
 fn resize<D: Disk>(tables: &mut Tables<D>, id: u64, file: FileRecord, length: u64)
-    requires id { id < 2 ^ 48 }
+    requires id { id ≤ LAST_ID }
     requires short { length ≤ MOST_BYTES_OF_A_FILE }
     requires there { find nat_cmp id (tables_now tables.old).files ≡ Some file }
     requires room { staged_of tables.old +

@@ -1,15 +1,15 @@
 //! Bytes are written into a file over the tables.
 
 ghost use Rattle.std.specs.Prelude.{◌≡◌, ◌⊎◌, ◌≤◌, ◌<◌, ◌+◌, ◌-◌, ◌*◌, ◌/◌, ℕ, List, length, true, false, max, IsSome};
-ghost use Rattle.std.specs.Prelude.{IsTrue, None, Some, IfErr, OnOk, OnErr, IsErrOf};
+ghost use Rattle.std.specs.Prelude.{None, IfErr, OnOk, OnErr, IsErrOf};
 ghost use Rattle.std.specs.Ordering.{nat_cmp};
-ghost use Rattle.std.specs.FinMap.{find, put};
+ghost use Rattle.std.specs.FinMap.{find};
 ghost use Rattle.vdisk.specs.Causes.{Rose};
 ghost use Rattle.cluster_space.specs.States.{free_in};
 ghost use Rattle.plain_volume.specs.Volume.{Volume, overwritten};
 ghost use Rattle.plain_volume.specs.Step.{write};
 ghost use Rattle.plain_volume.specs.Replies.{done_reply};
-ghost use Rattle.table_records.specs.declared.records.FileRecord.{FileRecord};
+ghost use Rattle.volume_inside.specs.declared.layout.TheConstants.{MOST_CLUSTERS};
 ghost use Rattle.volume_inside.specs.Layout.{half_bytes};
 ghost use Rattle.volume_inside.specs.Typed.{Typed};
 ghost use Rattle.volume_inside.specs.View.{file_cells};
@@ -19,6 +19,7 @@ ghost use Rattle.volume_tables.specs.Pending.{pending_of, roomed_of, worn_of};
 ghost use Rattle.volume_tables.specs.Sound.{IsSound, IsKept, Endures, Spares};
 ghost use Rattle.volume_tables.specs.Spending.{Spends};
 ghost use Rattle.volume_tables.specs.Wants.{wanting, IsWanting, IsRepliedOrMemory};
+ghost use Rattle.volume_files.specs.Edges.{AreEdges};
 ghost use Rattle.volume_files.specs.Insides.{id_written};
 ghost use Rattle.volume_files.specs.Own.{AreOwnAround, AreOwnBeside};
 ghost use Rattle.volume_files.specs.Needs.{missing, first_touched, touched, touched_at, write_needs, write_bytes};
@@ -26,6 +27,7 @@ ghost use Rattle.volume_files.specs.Writing.{AreWritten, IsWritten, IsWritePendi
 
 use crate::block::BLOCK;
 use crate::blocks::write_blocks;
+use crate::edges::{Edges, read_edges};
 use cluster_space::Run;
 use plain_volume::Fault;
 use plain_volume::limits::{MOST_BYTES_OF_A_CALL, MOST_BYTES_OF_A_FILE};
@@ -34,7 +36,7 @@ use volume_tables::{FileRecord, Tables, make_room};
 
 /// How many of so many blocks of a file from one on have no extent.
 fn count_missing<D: Disk>(tables: &Tables<D>, file: u64, first: u32, count: u32) -> u32
-    requires low { first + count ≤ 1048576 }
+    requires low { first + count ≤ MOST_CLUSTERS }
     ensures is { result ≡ missing (tables_now tables.now) file first count }
     ensures most { result ≤ count }
 {
@@ -43,7 +45,7 @@ fn count_missing<D: Disk>(tables: &Tables<D>, file: u64, first: u32, count: u32)
 }
 
 /// Makes room for a write of some bytes into a file that stays within the limits.
-fn make_room_for_write<D: Disk>(
+pub fn make_room_for_write<D: Disk>(
     tables: &mut Tables<D>,
     file: u64,
     at: u64,
@@ -80,8 +82,73 @@ fn make_room_for_write<D: Disk>(
     make_room(tables, false, grows, 38 + 55 * touches as usize, touches)
 }
 
-/// Writes some bytes at a place of a file for which there is room. A refusal leaves the tables as they are.
-fn write_with_room<D: Disk>(
+/// Writes some bytes at a place of a file for which there is room. Of the two blocks at their edges the file keeps what
+/// the edges say, so nothing is read. A refusal leaves the tables as they are.
+///
+/// The faults: `Failed`, where the device failed, which stops the volume; `Memory`.
+pub fn write_with_edges<D: Disk>(
+    tables: &mut Tables<D>,
+    file: u64,
+    at: u64,
+    bytes: &[u8],
+    edges: &Edges,
+) -> Result<(), Fault>
+    requires running { stopped tables.old ≡ false }
+    requires sound { IsSound tables.old }
+    requires there { IsSome (find nat_cmp file (tables_now tables.old).files) }
+    requires some { 0 < length bytes.now }
+    requires short { length bytes.now ≤ MOST_BYTES_OF_A_CALL }
+    requires within { at + length bytes.now ≤ MOST_BYTES_OF_A_FILE }
+    requires room { IsRoomFor tables.old (38 + 55 * touched at (length bytes.now)) (touched at (length bytes.now)) }
+    requires fits { checkpoint_of tables.old +
+        24 * missing (tables_now tables.old) file (first_touched at) (touched at (length bytes.now))
+        ≤ half_bytes (clusters_in tables.old) }
+    ensures written { OnOk result (IsWritten file at (at + length bytes.now)
+        (tables_now tables.old) (tables_now tables.new)) }
+    ensures err { OnErr result (tables_now tables.new ≡ tables_now tables.old) }
+    ensures err_inside { OnErr result (inside_now tables.new ≡ inside_now tables.old) }
+    ensures cells { (stored : Typed) → IsTables tables.old stored →
+        AreEdges (inside_now tables.old) file at (length bytes.now) edges.now → OnOk result
+        (file_cells (inside_now tables.new) file ≡
+        overwritten at bytes.now (file_cells (inside_now tables.old) file)) }
+    ensures inside { (stored : Typed) → IsTables tables.old stored →
+        AreEdges (inside_now tables.old) file at (length bytes.now) edges.now → OnOk result
+        (inside_now tables.new ≡ id_written file at bytes.now (inside_now tables.old)) }
+    ensures others { OnOk result ((other : ℕ) → (other ≡ file → ⊥) →
+        file_cells (inside_now tables.new) other ≡ file_cells (inside_now tables.old) other) }
+    ensures sound { IsSound tables.new }
+    ensures leaves { Leaves tables.old tables.new }
+    ensures spends { Spends (touched at (length bytes.now)) 0 tables.old tables.new }
+    ensures staged { OnOk result (staged_of tables.new ≡ staged_of tables.old + write_bytes at (length bytes.now)) }
+    ensures taken { OnOk result (free_in (states_of tables.new) + touched at (length bytes.now) ≡
+        free_in (states_of tables.old)) }
+    ensures stops { stopped tables.new ≡ true → IsErrOf result Fault.Failed }
+    ensures refused { OnErr result (IsErrOf result Fault.Failed ⊎ IsErrOf result Fault.Memory) }
+    ensures failed { IsErrOf result Fault.Failed → Rose (disk_of tables.old).faults (disk_of tables.new).faults }
+    ensures halts { IsErrOf result Fault.Failed → stopped tables.new ≡ true }
+{
+    let mut grown = tables.get_file(file).unwrap();
+    grown.length = grown.length.max(at + bytes.len() as u64);
+    let none = Run { first: 0, count: 0 };
+    write_blocks(
+        tables,
+        file,
+        grown,
+        edges,
+        at,
+        bytes,
+        (at / BLOCK) as u32,
+        none,
+    )?;
+    tables.set_file(file, grown).unwrap();
+    Ok(())
+}
+
+/// Writes some bytes at a place of a file for which there is room. No cell beside them in the blocks that they touch comes
+/// from a base. What these blocks keep is read first. A refusal leaves the tables as they are.
+///
+/// The faults: `Failed`, where the device failed; `Memory`.
+pub fn write_with_room<D: Disk>(
     tables: &mut Tables<D>,
     file: u64,
     at: u64,
@@ -121,12 +188,8 @@ fn write_with_room<D: Disk>(
     ensures halts { IsErrOf result Fault.Failed → (stopped tables.new ≡ true) ⊎
         ReadsFirst file at at (length bytes.now) (tables_now tables.old) }
 {
-    let mut grown = tables.get_file(file).unwrap();
-    grown.length = grown.length.max(at + bytes.len() as u64);
-    let none = Run { first: 0, count: 0 };
-    write_blocks(tables, file, grown, at, bytes, (at / BLOCK) as u32, none)?;
-    tables.set_file(file, grown).unwrap();
-    Ok(())
+    let edges = read_edges(tables, file, at, bytes.len())?;
+    write_with_edges(tables, file, at, bytes, &edges)
 }
 
 /// Puts bytes at a place of a file that is there, with zeros up to it where the file is shorter; no bytes change

@@ -23,7 +23,7 @@ use Rattle.volume_inside.specs.Changes.{created}
 use Rattle.volume_inside.specs.Entries.{Each, each_put, each_found, each_weaker}
 use Rattle.table_records.specs.declared.chunk_records.Container.{Container}
 use Rattle.volume_inside.specs.ChunkTables.{ChunkTables}
-use Rattle.volume_inside.specs.ChunkRules.{HasNoBase, MapRowHolds, RowHolds, ContainerRecordHolds, ContainerHolds, ChunksHold}
+use Rattle.volume_inside.specs.ChunkRules.{MapRowHolds, RowHolds, ContainerRecordHolds, ContainerHolds, ChunksHold}
 use Rattle.volume_inside.specs.Rules.{IsVolumeRecord, id_after, NameHolds, IsNamedOnce, FileHolds, FilesHold, LiesIn, ExtentHolds, ExtentsHold, RulesHold}
 use Rattle.volume_inside.proofs.Lawfuls.{there_after, lies_after}
 
@@ -215,7 +215,6 @@ module _ (n : ℕ) (t : Typed) (rules : RulesHold n t) (v : VolumeRecord) (there
       files = subst (λ (next : ℕ). FilesHold next (created v name file t).files) (sym (ap id_after volume_after)) files_after;
       map_rows = each_put nat_cmp nat_cmp-IsAntisymmetric (MapRowHolds t.chunks.rows) v.next_id file t.files
           (λ some. absurd (some no_map)) rules.map_rows;
-      bare = each_put nat_cmp nat_cmp-IsAntisymmetric HasNoBase v.next_id file t.files no_cover rules.bare;
       extents = extents_hold;
       chunks = subst (λ (next : ℕ). ChunksHold n next t.chunks) (sym (ap id_after volume_after)) chunks_after;
       clusters = rules.clusters;

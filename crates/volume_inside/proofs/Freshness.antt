@@ -10,11 +10,11 @@ use Rattle.table_records.specs.declared.jobs.JobKind.TheVariants.{Optimization, 
 use Rattle.volume_inside.specs.Typed.{Typed, typed_of}
 use Rattle.volume_inside.specs.Inside.{inside_at}
 use Rattle.volume_inside.specs.View.{view}
-use Rattle.volume_inside.specs.Rules.{AreBare, RecordsHold, RulesHold, IsVolume, IsResultRecord}
+use Rattle.volume_inside.specs.Rules.{RecordsHold, RulesHold, IsVolume, IsResultRecord}
 use Rattle.volume_inside.specs.Superblock.{HasSuperblock}
 use Rattle.volume_inside.specs.Shows.{Area, Shows}
 use Rattle.volume_inside.specs.Fresh.{fresh_tables, fresh_map}
-use Rattle.volume_inside.proofs.Lawfuls.{bare_maps}
+use Rattle.volume_inside.specs.ChunkRules.{MapsHold}
 
 pub fresh_typed : typed_of fresh_map ≡ fresh_tables
 fresh_typed = refl
@@ -46,7 +46,6 @@ fresh_rules n = record {
   names = record { names = tt; once = tt; few = omega arith };
   files = tt;
   map_rows = tt;
-  bare = tt;
   extents = tt;
   chunks = record {
     rows = tt;
@@ -79,7 +78,7 @@ fresh_shows a image m superblock size spells formed same = record {
     spells = spells;
     volume = record { spelled = formed; rules = subst (RulesHold a.clusters) (sym same) (fresh_rules a.clusters) };
     is = refl;
-    maps = bare_maps (typed_of m) image (subst (λ (t : Typed). AreBare t.files) (sym same) tt);
+    maps = subst (λ (t : Typed). MapsHold (inside_at t image)) (sym same) tt;
   };
   is = ap (λ (t : Typed). view (inside_at t image)) same ∙ fresh_view image;
 }

@@ -43,9 +43,9 @@ broken_once j k number rule one two later (inr (holds, a)) (inr (too, b)) = late
 pub least_once : (n : ℕ) (m : Map) (image : List ℕ) (j k : ℕ) → IsLeastBroken n m image j → IsLeastBroken n m image k
     → j ≡ k
 least_once n m image j k =
-    broken_once j k 1 _ _ _ (broken_once j k 2 _ _ _ (broken_once j k 3 _ _ _ (broken_once j k 5 _ _ _
+    broken_once j k 1 _ _ _ (broken_once j k 2 _ _ _ (broken_once j k 3 _ _ _ (broken_once j k 4 _ _ _ (broken_once j k 5 _ _ _
     (broken_once j k 6 _ _ _ (broken_once j k 7 _ _ _ (broken_once j k 8 _ _ _ (broken_once j k 9 _ _ _
-    (broken_once j k 10 _ _ _ (broken_once j k 12 _ _ _ (λ a b. absurd a))))))))))
+    (broken_once j k 10 _ _ _ (broken_once j k 12 _ _ _ (λ a b. absurd a)))))))))))
 
 -- no rule of a volume is broken
 unbroken : (k number : ℕ) (rule later : Type 0) → rule → (later → ⊥) → Broken k number rule later → ⊥
@@ -57,14 +57,15 @@ pub volume_unbroken : (n : ℕ) (m : Map) (image : List ℕ) (k : ℕ) → IsVol
 volume_unbroken n m image k v maps =
     unbroken k 1 _ _ (v.spelled, v.rules.records)
     (unbroken k 2 _ _ v.rules.names
-    (unbroken k 3 _ _ (v.rules.files, v.rules.bare)
+    (unbroken k 3 _ _ v.rules.files
+    (unbroken k 4 _ _ v.rules.map_rows
     (unbroken k 5 _ _ v.rules.extents
     (unbroken k 6 _ _ v.rules.chunks.rows
     (unbroken k 7 _ _ v.rules.chunks.redirects
     (unbroken k 8 _ _ v.rules.chunks.places
     (unbroken k 9 _ _ v.rules.chunks.containers
     (unbroken k 10 _ _ v.rules.clusters
-    (unbroken k 12 _ _ maps (λ none. none))))))))))
+    (unbroken k 12 _ _ maps (λ none. none)))))))))))
 
 -- the first one of the rules of tables is the first one of all
 sooner : (k number : ℕ) (rule one two : Type 0) → (one → two) → Broken k number rule one → Broken k number rule two
@@ -73,8 +74,8 @@ sooner k number rule one two later (inr (holds, rest)) = inr (holds, later rest)
 
 pub least_of_tables : (n : ℕ) (m : Map) (image : List ℕ) (k : ℕ) → IsLeastBrokenOfTables n m k → IsLeastBroken n m image k
 least_of_tables n m image k =
-    sooner k 1 _ _ _ (sooner k 2 _ _ _ (sooner k 3 _ _ _ (sooner k 5 _ _ _ (sooner k 6 _ _ _ (sooner k 7 _ _ _
-    (sooner k 8 _ _ _ (sooner k 9 _ _ _ (sooner k 10 _ _ _ (λ none. absurd none)))))))))
+    sooner k 1 _ _ _ (sooner k 2 _ _ _ (sooner k 3 _ _ _ (sooner k 4 _ _ _ (sooner k 5 _ _ _ (sooner k 6 _ _ _ (sooner k 7 _ _ _
+    (sooner k 8 _ _ _ (sooner k 9 _ _ _ (sooner k 10 _ _ _ (λ none. absurd none))))))))))
 
 -- of a volume that breaks the rule on maps, that is the first one
 pub least_of_maps : (n : ℕ) (m : Map) (image : List ℕ) → IsVolume n m → (MapsHold (inside_at (typed_of m) image) → ⊥)
@@ -85,18 +86,21 @@ least_of_maps n m image v fails =
       inr (
         v.rules.names,
         inr (
-          (v.rules.files, v.rules.bare),
+          v.rules.files,
           inr (
-            v.rules.extents,
+            v.rules.map_rows,
             inr (
-              v.rules.chunks.rows,
+              v.rules.extents,
               inr (
-                v.rules.chunks.redirects,
+                v.rules.chunks.rows,
                 inr (
-                  v.rules.chunks.places,
+                  v.rules.chunks.redirects,
                   inr (
-                    v.rules.chunks.containers,
-                    inr (v.rules.clusters, inl (refl, fails)),
+                    v.rules.chunks.places,
+                    inr (
+                      v.rules.chunks.containers,
+                      inr (v.rules.clusters, inl (refl, fails)),
+                    ),
                   ),
                 ),
               ),

@@ -9,17 +9,14 @@ use Rattle.std.proofs.lemmas.Map.Lookups.{exact_pairs, exact_unsigned}
 use Rattle.table_records.specs.Keys.{pair_cmp}
 use Rattle.table_records.specs.declared.records.FileRecord.{FileRecord}
 use Rattle.table_records.specs.declared.records.Extent.{Extent}
-use Rattle.table_records.specs.declared.chunk_records.Row.{Row}
 use Rattle.volume_inside.specs.Typed.{Typed, FileBlock}
 use Rattle.volume_inside.specs.Changes.{with_file, with_extent, keep_extents}
-use Rattle.volume_inside.specs.Bases.{base_clusters, bases_of}
-use Rattle.volume_inside.specs.Chunks.{Bases}
-use Rattle.volume_inside.specs.Inside.{inside_at}
-use Rattle.volume_inside.specs.ChunkRules.{HasNoBase, MapRowHolds, BaseHolds, MapsHold}
+use Rattle.volume_inside.specs.Bases.{base_clusters}
+use Rattle.volume_inside.specs.ChunkRules.{MapRowHolds}
 use Rattle.volume_inside.specs.Named.{clusters_of}
 use Rattle.volume_inside.specs.Lists.{IsOnce}
 use Rattle.volume_inside.specs.Entries.{Each, each_put, each_found, each_weaker, each_where_key}
-use Rattle.volume_inside.specs.Rules.{next_id_of, NameHolds, IsNamedOnce, FileHolds, FilesHold, MapRowsHold, AreBare, LiesIn, ExtentHolds, ExtentsHold, RulesHold}
+use Rattle.volume_inside.specs.Rules.{next_id_of, NameHolds, IsNamedOnce, FileHolds, LiesIn, ExtentHolds, ExtentsHold, RulesHold}
 use Rattle.volume_inside.proofs.Spaces.{once_kept}
 
 -- ---- a file that is put
@@ -45,25 +42,6 @@ lies_after k e id file files lies mine =
     by true is = mine (eqb-true k.0 id (sym (unsigned_tied k.0 id) ∙ is))
     by false is = lies
 
--- a file without a base has no map row
-pub no_map_row : (next : ℕ) (rows : List (ℕ × Row)) (id : ℕ) (file : FileRecord) → FileHolds next id file
-    → HasNoBase id file → MapRowHolds rows id file
-no_map_row next rows id file holds none = λ some. absurd (some (holds.cover.no_map none))
-
-pub no_map_rows : (next : ℕ) (rows : List (ℕ × Row)) (files : List (ℕ × FileRecord)) → FilesHold next files
-    → AreBare files → MapRowsHold rows files
-no_map_rows next rows [] hold bare = tt
-no_map_rows next rows (e ∷ files) hold bare =
-    (no_map_row next rows e.0 e.1 hold.0 bare.0, no_map_rows next rows files hold.1 bare.1)
-
--- where no file has a base, there is no map that could break their rule
-pub bare_bases : (b : Bases) (files : List (ℕ × FileRecord)) → AreBare files → Each (BaseHolds b) files
-bare_bases b files bare =
-    each_weaker HasNoBase (BaseHolds b) files (λ id file none. λ covered. absurd (covered none)) bare
-
-pub bare_maps : (t : Typed) (image : List ℕ) → AreBare t.files → MapsHold (inside_at t image)
-bare_maps t image bare = bare_bases (bases_of t image) t.files bare
-
 -- ---- one change at a time
 
 module _ (n : ℕ) (t : Typed) (rules : RulesHold n t) where
@@ -75,7 +53,6 @@ module _ (n : ℕ) (t : Typed) (rules : RulesHold n t) where
     names = rules.names;
     files = rules.files;
     map_rows = rules.map_rows;
-    bare = rules.bare;
     extents = each_put pair_cmp (exact_pairs nat_cmp nat_cmp exact_unsigned exact_unsigned) (ExtentHolds n t.files) k e t.extents holds rules.extents;
     chunks = rules.chunks;
     clusters = once;
@@ -88,7 +65,6 @@ module _ (n : ℕ) (t : Typed) (rules : RulesHold n t) where
     names = rules.names;
     files = rules.files;
     map_rows = rules.map_rows;
-    bare = rules.bare;
     extents = each_where_key pair_cmp (ExtentHolds n t.files) test t.extents rules.extents;
     chunks = rules.chunks;
     clusters = once_kept (0, 0) (base_clusters t) test t.extents rules.clusters;
@@ -96,9 +72,9 @@ module _ (n : ℕ) (t : Typed) (rules : RulesHold n t) where
 
   -- another record of a file that is there, in which its blocks lie
   pub rules_with_file : (id : ℕ) (old file : FileRecord) → find nat_cmp id t.files ≡ Some old → FileHolds (next_id_of t) id file
-      → MapRowHolds t.chunks.rows id file → HasNoBase id file
+      → MapRowHolds t.chunks.rows id file
       → Each (λ k e. k.0 ≡ id → 4096 * k.1 + e.valid ≤ file.length) t.extents → RulesHold n (with_file id file t)
-  rules_with_file id old file found holds map none blocks =
+  rules_with_file id old file found holds map blocks =
       let one : IsNamedOnce t.names id file = each_found nat_cmp nat_cmp-IsAntisymmetric (IsNamedOnce t.names) id old t.files found rules.names.once in
       record {
         records = rules.records;
@@ -110,7 +86,6 @@ module _ (n : ℕ) (t : Typed) (rules : RulesHold n t) where
         };
         files = each_put nat_cmp nat_cmp-IsAntisymmetric (FileHolds (next_id_of t)) id file t.files holds rules.files;
         map_rows = each_put nat_cmp nat_cmp-IsAntisymmetric (MapRowHolds t.chunks.rows) id file t.files map rules.map_rows;
-        bare = each_put nat_cmp nat_cmp-IsAntisymmetric HasNoBase id file t.files none rules.bare;
         extents = lie t.extents rules.extents blocks;
         chunks = rules.chunks;
         clusters = rules.clusters;

@@ -16,6 +16,7 @@ pub mod Journals
 pub mod Lawfuls
 pub mod Lost
 pub mod Names
+pub mod MapsKept
 pub mod Naming
 pub mod Others
 pub mod Removed

@@ -20,7 +20,7 @@ use Rattle.volume_inside.specs.Typed.{Typed, FileBlock}
 use Rattle.volume_inside.specs.Changes.{deleted, renamed, DropsOnly}
 use Rattle.volume_inside.specs.Bases.{base_clusters}
 use Rattle.volume_inside.specs.Entries.{Each, each_put, each_found, each_weaker, each_where_key}
-use Rattle.volume_inside.specs.ChunkRules.{HasNoBase, MapRowHolds}
+use Rattle.volume_inside.specs.ChunkRules.{MapRowHolds}
 use Rattle.volume_inside.specs.Rules.{next_id_of, NameHolds, IsNamedOnce, FileHolds, LiesIn, ExtentsHold, RulesHold}
 use Rattle.volume_inside.proofs.Spaces.{once_kept}
 use Rattle.volume_inside.proofs.Changed.{none_below, below_too, not_below}
@@ -193,7 +193,6 @@ module _ (n : ℕ) (t : Typed) (rules : RulesHold n t) (name : List ℕ) (id : �
     };
     files = each_where_key nat_cmp (FileHolds (next_id_of t)) files_test t.files rules.files;
     map_rows = each_where_key nat_cmp (MapRowHolds t.chunks.rows) files_test t.files rules.map_rows;
-    bare = each_where_key nat_cmp HasNoBase files_test t.files rules.bare;
     extents = extents_hold t.extents rules.extents;
     chunks = rules.chunks;
     clusters = once_kept (0, 0) (base_clusters t) blocks_test t.extents rules.clusters;
@@ -240,7 +239,6 @@ module _ (n : ℕ) (t : Typed) (rules : RulesHold n t) (from to : List ℕ) (id 
     };
     files = rules.files;
     map_rows = rules.map_rows;
-    bare = rules.bare;
     extents = rules.extents;
     chunks = rules.chunks;
     clusters = rules.clusters;

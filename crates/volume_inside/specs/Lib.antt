@@ -17,6 +17,7 @@ pub mod Tails
 pub mod Joins
 pub mod Entries
 pub mod ChunkRules
+pub mod Mapping
 pub mod ChunkChanges
 pub mod Damage
 pub mod Rules

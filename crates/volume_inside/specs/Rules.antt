@@ -100,7 +100,7 @@ FilesHold next files = Each (FileHolds next) files
 abbrev pub MapRowsHold : List (ℕ × Row) → List (ℕ × FileRecord) → Type 0
 MapRowsHold rows files = Each (MapRowHolds rows) files
 
--- no file has a base: none is made yet
+-- no file has a base
 abbrev pub AreBare : List (ℕ × FileRecord) → Type 0
 AreBare files = Each HasNoBase files
 
@@ -134,7 +134,6 @@ pub record RulesHold (n : ℕ) (t : Typed) : Type 0 where
   pub names : NamesHold t.names t.files
   pub files : FilesHold (next_id_of t) t.files
   pub map_rows : MapRowsHold t.chunks.rows t.files
-  pub bare : AreBare t.files
   pub extents : ExtentsHold n t.files t.extents
   pub chunks : ChunksHold n (next_id_of t) t.chunks
   pub clusters : ClustersHold t
@@ -150,21 +149,21 @@ pub record IsVolume (n : ℕ) (m : Map) : Type 0 where
 abbrev pub Broken : ℕ → ℕ → Type 0 → Type 0 → Type 0
 Broken k number rule later = ((k ≡ number) × (rule → ⊥)) ⊎ (rule × later)
 
--- Of the rules that tables alone tell, k is the first one that does not hold, or these hold and k is a later one. As no
--- file has a base yet, that on the rows of maps, 4, holds where rule 3 does; rule 11 is on a table that no volume has
--- yet.
+-- Of the rules that tables alone tell, k is the first one that does not hold, or these hold and k is a later one. Rule 11
+-- is on a table that no volume has yet.
 abbrev pub IsLeastBrokenOr : ℕ → Map → ℕ → Type 0 → Type 0
 IsLeastBrokenOr n m k later =
     let t = typed_of m in
     Broken k 1 (AllWellFormed m × RecordsHold t.volume t.settings t.results)
     (Broken k 2 (NamesHold t.names t.files)
-    (Broken k 3 (FilesHold (next_id_of t) t.files × AreBare t.files)
+    (Broken k 3 (FilesHold (next_id_of t) t.files)
+    (Broken k 4 (MapRowsHold t.chunks.rows t.files)
     (Broken k 5 (ExtentsHold n t.files t.extents)
     (Broken k 6 (RowsHold (next_id_of t) t.chunks)
     (Broken k 7 (RedirectsHold t.chunks)
     (Broken k 8 (PlacesHold t.chunks)
     (Broken k 9 (ContainersHold n (next_id_of t) t.chunks)
-    (Broken k 10 (ClustersHold t) later))))))))
+    (Broken k 10 (ClustersHold t) later)))))))))
 
 -- of the rules that tables alone tell, k is the first one that does not hold
 abbrev pub IsLeastBrokenOfTables : ℕ → Map → ℕ → Type 0

@@ -1,6 +1,6 @@
 // Laws of rows, copies and bases, each the contract of an empty function.
-ghost use Rattle.std.specs.Prelude.{◌≡◌, ◌≤◌, ◌<◌, ◌+◌, ◌*◌, ◌/◌, ◌%◌, ℕ, Bool, false, List, length, get_or};
-ghost use Rattle.std.specs.Prelude.{Some, None, IsSome};
+ghost use Rattle.std.specs.Prelude.{◌≡◌, ◌⊎◌, ◌≤◌, ◌<◌, ◌+◌, ◌*◌, ◌/◌, ◌%◌, ℕ, Bool, false, List, length, get_or};
+ghost use Rattle.std.specs.Prelude.{Some, None, IsSome, IsSomeAnd};
 ghost use Rattle.std.specs.Ordering.{nat_cmp};
 ghost use Rattle.std.specs.FinMap.{find};
 ghost use Rattle.sha2.specs.Sha256.{sha256};
@@ -19,12 +19,13 @@ ghost use Rattle.volume_inside.specs.Named.{named, clusters_of, IsUnnamed};
 ghost use Rattle.volume_inside.specs.Pages.{used_of, page_length, content};
 ghost use Rattle.volume_inside.specs.Chunks.{Bases, if_sound, chunk, chunks_at, length_of};
 ghost use Rattle.volume_inside.specs.ChunkChanges.{Extends, IsRedirected, IsDamaged, HasOneText, Grows, HasPages};
+ghost use Rattle.volume_inside.specs.Mapping.{IsLike};
 ghost use Rattle.volume_inside.specs.Damage.{IsVolumeFrom};
 ghost use Rattle.volume_inside.specs.Entries.{Each};
 ghost use Rattle.volume_inside.specs.Inside.{Inside};
 ghost use Rattle.volume_inside.specs.Changes.{with_block, with_cluster, with_container, keep_clusters, keep_containers};
 ghost use Rattle.volume_inside.specs.View.{cell, view};
-ghost use Rattle.volume_inside.specs.ChunkRules.{MapRowHolds, MapsHold};
+ghost use Rattle.volume_inside.specs.ChunkRules.{BaseHolds, IsMapRow, MapRowHolds, MapsHold};
 ghost use Rattle.volume_inside.specs.Joins.{HasCover, IsJoined};
 ghost use Rattle.volume_inside.specs.Tails.{AreTailsFree};
 
@@ -75,6 +76,17 @@ pub fn the_same_chunks_show_the_same_volume()
     ensures { (i j : Inside) → j.names ≡ i.names → j.files ≡ i.files → j.blocks ≡ i.blocks →
         ((id : ℕ) → IsSome (find nat_cmp id i.bases.rows) → chunk j.bases id ≡ chunk i.bases id) →
         Each (MapRowHolds i.bases.rows) i.files → Each HasCover i.files → MapsHold i → view j ≡ view i }
+{}
+
+/// The map of a file is as it should be where it was for more of the same file. And the maps of all files are, where they
+/// were, each row is there still with its kind and its length, and each row of a map has its chunk still, or is lost.
+pub fn maps_go_on()
+    ensures shorter { (b : Bases) (id : ℕ) (was file : FileRecord) → file.covers ≤ was.covers →
+        ((file.covers ≡ 0 → ⊥) → file.map_row ≡ was.map_row) → BaseHolds b id was → BaseHolds b id file }
+    ensures rows { (b c : Bases) (files : List (ℕ × FileRecord)) → ((id : ℕ) (row : Row) →
+        find nat_cmp id b.rows ≡ Some row → IsSomeAnd (find nat_cmp id c.rows) (IsLike row)) →
+        ((m : ℕ) → IsSomeAnd (find nat_cmp m b.rows) IsMapRow → (chunk c m ≡ chunk b m) ⊎ (chunk c m ≡ None)) →
+        Each (MapRowHolds b.rows) files → Each HasCover files → Each (BaseHolds b) files → Each (BaseHolds c) files }
 {}
 
 /// A block that holds the cells that stood at its place shows the same volume. None of these cells is lost.

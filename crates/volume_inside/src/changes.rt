@@ -16,7 +16,7 @@ ghost use Rattle.volume_inside.specs.Inside.{Inside, inside_at};
 ghost use Rattle.volume_inside.specs.View.{file_cells, view};
 ghost use Rattle.volume_inside.specs.Named.{clusters_of};
 ghost use Rattle.volume_inside.specs.Lists.{IsOnce};
-ghost use Rattle.volume_inside.specs.ChunkRules.{HasNoBase};
+ghost use Rattle.volume_inside.specs.ChunkRules.{MapRowHolds};
 ghost use Rattle.volume_inside.specs.Entries.{Each};
 ghost use Rattle.volume_inside.specs.Rules.{next_id_of, FileHolds, ExtentHolds, RulesHold};
 
@@ -45,11 +45,11 @@ pub fn files_that_are_renamed_keep_the_rules()
         is_lawful to ≡ true → DropsOnly (λ other. other ≡ from) names → RulesHold n (renamed to id names t) }
 {}
 
-/// Another record of a file that is there, in which its blocks lie, keeps the rules. It has no base.
+/// Another record of a file that is there, in which its blocks lie, keeps the rules. Its map is that of a row of a map.
 pub fn records_in_which_blocks_lie_keep_the_rules()
     ensures { (n : ℕ) (t : Typed) (id : ℕ) (old file : FileRecord) → RulesHold n t →
         find nat_cmp id t.files ≡ Some old → FileHolds (next_id_of t) id file →
-        HasNoBase id file → Each (λ k e. k.0 ≡ id → CLUSTER_BYTES * k.1 + e.valid ≤ file.length) t.extents →
+        MapRowHolds t.chunks.rows id file → Each (λ k e. k.0 ≡ id → CLUSTER_BYTES * k.1 + e.valid ≤ file.length) t.extents →
         RulesHold n (with_file id file t) }
 {}
 

@@ -4,13 +4,13 @@ ghost use Rattle.std.specs.Ordering.{nat_cmp};
 ghost use Rattle.std.specs.FinMap.{find};
 ghost use Rattle.table_records.specs.declared.chunk_records.Row.{Row as RowRecord};
 ghost use Rattle.table_records.specs.declared.chunk_records.Container.{Container as ContainerRecord};
-ghost use Rattle.volume_inside.specs.ChunkRules.{IsDataRow, IsMapRecord, RowHolds, IsTarget, RedirectHolds};
+ghost use Rattle.volume_inside.specs.ChunkRules.{IsDataRow, IsMapRecord, MapRowHolds, RowHolds, IsTarget, RedirectHolds};
 ghost use Rattle.volume_inside.specs.ChunkRules.{PlaceOfHolds, PlaceHolds, ContainerRecordHolds, ClusterHolds};
 ghost use Rattle.volume_inside.specs.ChunkRules.{kind_of_copy as kind_for};
 
 use crate::layout::CLUSTER_BYTES;
 use groundwork::MOST_PIECE_BYTES;
-use table_records::{Container, Place, Row};
+use table_records::{Container, FileRecord, Place, Row};
 
 /// The kind of the row of a chunk of file data.
 pub const DATA_ROW: u8 = 1;
@@ -33,8 +33,11 @@ pub const MOST_MAP_BYTES: u32 = 32_768 * ENTRY_BYTES;
 /// How many partitions rows of file data are in.
 pub const PARTITIONS: u8 = 8;
 
+/// The most pages of a container, each a cluster.
+pub const MOST_PAGES: u32 = 4_096;
+
 /// The most bytes of a container: 4,096 clusters.
-pub const MOST_CONTAINER_BYTES: u32 = 4_096 * CLUSTER_BYTES;
+pub const MOST_CONTAINER_BYTES: u32 = MOST_PAGES * CLUSTER_BYTES;
 
 fn is_data_row(row: &Row) -> bool
     ensures { IsTrue result ↔ IsDataRow row.now }
@@ -67,6 +70,20 @@ fn is_target(id: u64, row: &Row, target: &Row) -> bool
 {
     let alike = target.digest == row.digest && target.length == row.length;
     row.redirect < id && target.kind == DATA_ROW && alike && target.redirect == 0
+}
+
+/// Whether the map row of a file is a row of a map, where it has this record, if it is there.
+pub fn map_row_holds(file: FileRecord, row: Option<Row>) -> bool
+    ensures { (rows : List (ℕ × RowRecord)) (id : ℕ) → find nat_cmp file.map_row rows ≡ row →
+        (IsTrue result ↔ MapRowHolds rows id file) }
+{
+    if file.map_row == 0 {
+        return true;
+    }
+    match row {
+        Some(row) => row.kind == MAP_ROW,
+        None => false,
+    }
 }
 
 /// Whether a row meets the rule of redirects, where the row that its redirect names is this one, if it is there.

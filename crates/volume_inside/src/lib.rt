@@ -21,7 +21,7 @@ mod superblock;
 
 pub use chunk_rules::{
     DATA_ROW, HOT_CONTAINER, MAP_ROW, MOST_CHUNK_BYTES, MOST_CONTAINER_BYTES, MOST_MAP_BYTES,
-    container_holds, page_holds, place_holds, redirect_holds, row_holds,
+    MOST_PAGES, container_holds, map_row_holds, page_holds, place_holds, redirect_holds, row_holds,
 };
 pub use layout::{
     CLUSTER_BYTES, JOURNAL_AT, LEAST_CLUSTERS, MOST_CLUSTERS, data_clusters, first_data_cluster,
@@ -29,7 +29,6 @@ pub use layout::{
 };
 pub use mount_fault::MountFault;
 pub use rules::{
-    LEAST_MINIMUM_SIZE, extent_holds, file_holds, is_bare, result_holds, settings_hold,
-    volume_record_holds,
+    LEAST_MINIMUM_SIZE, extent_holds, file_holds, result_holds, settings_hold, volume_record_holds,
 };
 pub use superblock::{read_superblock, write_superblock};

@@ -9,7 +9,7 @@ ghost use Rattle.volume_inside.specs.Shows.{view_at};
 ghost use Rattle.volume_inside.specs.Layout.{half_clusters, half_bytes, first_data_cluster, data_clusters};
 ghost use Rattle.volume_inside.specs.Rules.{IsVolume, IsLeastBroken};
 ghost use Rattle.volume_inside.specs.InsideOf.{HasVersion};
-ghost use Rattle.volume_inside.specs.Rows.{one_file, map_of, name_pair, file_pair, extent_pair};
+ghost use Rattle.volume_inside.specs.Rows.{one_file, map_of, name_pair, file_pair, based_pair, extent_pair};
 
 /// Of 4,096 clusters each half of the journal has 128, and 3,839 are data clusters.
 pub fn a_volume_of_4096_clusters()
@@ -38,12 +38,13 @@ pub fn one_file_meets_the_rules()
     ensures { IsVolume 4096 (one_file 7 (extent_pair 1 0 257 5 ∷ [])) }
 {}
 
-/// The rule that is broken: a next id of 0, a name of no file, a covered byte of a file without a map, an extent of no
-/// file, an extent in the journal, and two extents over one cluster.
+/// The rule that is broken: a next id of 0, a name of no file, a covered byte of a file without a map, a map of no row, an
+/// extent of no file, an extent in the journal, and two extents over one cluster.
 pub fn each_rule_may_be_broken()
     ensures records { (image : List ℕ) → IsLeastBroken 4096 (map_of 0 []) image 1 }
     ensures names { (image : List ℕ) → IsLeastBroken 4096 (map_of 2 (name_pair (codes "a") 1 ∷ [])) image 2 }
     ensures files { (image : List ℕ) → IsLeastBroken 4096 (map_of 2 (name_pair (codes "a") 1 ∷ file_pair 1 1 1 ∷ [])) image 3 }
+    ensures map_rows { (image : List ℕ) → IsLeastBroken 4096 (map_of 2 (name_pair (codes "a") 1 ∷ based_pair 1 7 ∷ [])) image 4 }
     ensures no_file { (image : List ℕ) → IsLeastBroken 4096 (one_file 7 (extent_pair 2 0 257 5 ∷ [])) image 5 }
     ensures journal { (image : List ℕ) → IsLeastBroken 4096 (one_file 7 (extent_pair 1 0 256 5 ∷ [])) image 5 }
     ensures clusters { (image : List ℕ) → IsLeastBroken 4096

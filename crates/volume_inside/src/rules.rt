@@ -3,7 +3,7 @@ ghost use Rattle.std.specs.Prelude.{◌≡◌, ◌↔◌, ℕ, List, IsTrue};
 ghost use Rattle.std.specs.Ordering.{nat_cmp};
 ghost use Rattle.std.specs.FinMap.{find};
 ghost use Rattle.table_records.specs.declared.records.FileRecord.{FileRecord};
-ghost use Rattle.volume_inside.specs.ChunkRules.{CoverHolds, HasNoBase};
+ghost use Rattle.volume_inside.specs.ChunkRules.{CoverHolds};
 ghost use Rattle.volume_inside.specs.Rules.{IsVolumeRecord, AreSettings, are_lawful_texts, IsResultRecord, FileHolds, ExtentHolds};
 
 use crate::layout::{CLUSTER_BYTES, is_data_cluster};
@@ -76,13 +76,6 @@ pub fn file_holds(next_id: u64, id: u64, file: FileRecord) -> bool
 {
     let drawn = id >= 1 && id < next_id;
     drawn && file.length <= MOST_BYTES_OF_A_FILE && cover_holds(file)
-}
-
-/// Whether a file has no base.
-pub fn is_bare(file: FileRecord) -> bool
-    ensures { (id : ℕ) → IsTrue result ↔ HasNoBase id file }
-{
-    file.covers == 0
 }
 
 /// Whether an extent meets the rules of extents, in an image of so many clusters and among files that have this record

@@ -125,13 +125,18 @@ module _ {D : Type 0} {d : Ghosts D} (t : Tables D d) (l : MetaLog D d) (quiet :
       new (subst (λ (p : ℕ × ℕ). (c : List ℕ) → new.may_leave c
       → IsSettledImage p.0 p.1 (log_state l) is.map (log_now l) c) (λ i. (at_place i, at_half i)) settled)))
 
+  -- what any tables name apart from the journal stays
+  pub commit_frame : (new : List ℕ) → ChangedWithin l.at (2 * l.half) (log_state l).image new → (u : Typed)
+      → IsApart journal_at (2 * half_bytes t.clusters) (named u) → inside_at u new ≡ inside_at u (disk_of t).image
+  commit_frame new change u apart =
+      let on_disk = subst (λ (x : D). ChangedWithin l.at (2 * l.half) (d.state x).image new) quiet.disk change in
+      inside_apart u journal_at (2 * half_bytes t.clusters) (disk_of t).image new apart
+      (subst (λ (p : ℕ × ℕ). ChangedWithin p.0 (2 * p.1) (disk_of t).image new) (λ i. (at_place i, at_half i)) on_disk)
+
   pub commit_inside : (q : Typed) (new : List ℕ) → q ≡ tables_now t
       → ChangedWithin l.at (2 * l.half) (log_state l).image new → inside_at q new ≡ inside_now t
   commit_inside q new same change =
-      let on_disk = subst (λ (x : D). ChangedWithin l.at (2 * l.half) (d.state x).image new) quiet.disk change in
-      ap (λ (r : Typed). inside_at r new) same
-      ∙ inside_apart (tables_now t) journal_at (2 * half_bytes t.clusters) (disk_of t).image new tables_apart
-      (subst (λ (p : ℕ × ℕ). ChangedWithin p.0 (2 * p.1) (disk_of t).image new) (λ i. (at_place i, at_half i)) on_disk)
+      ap (λ (r : Typed). inside_at r new) same ∙ commit_frame new change (tables_now t) tables_apart
 
   -- the tables now and the clusters that they name, after a commit
   pub commit_tables : (m : Map) (ends : JobEnds) → m ≡ log_now l → ends ≡ all_staged t.ends

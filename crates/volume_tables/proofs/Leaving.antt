@@ -178,6 +178,7 @@ module _ {D : Type 0} {d : Ghosts D} where
         (sym log) (keeps_start (disk_of a) (Shows (area_of a) w) kept);
     same = subst (λ (l : MetaLog D d). d.is_same a.log.disk l.disk) (sym log) self;
     later = subst (λ (l : MetaLog D d). (disk_of a).faults ≤ (log_state l).faults) (sym log) (omega arith);
+    tells = ap (λ (l : MetaLog D d). (log_state l).tells) log;
     place = ap (λ (l : MetaLog D d). log_place l) log;
     epoch = ap (λ (l : MetaLog D d). log_epoch l) log;
     ends = ends;
@@ -204,6 +205,7 @@ module _ {D : Type 0} {d : Ghosts D} where
         (sym quiet.disk) (keeps_start (disk_of t) (Shows (area_of t) w) kept);
     same = subst (λ (x : D). d.is_same t.log.disk x) (sym quiet.disk) self;
     later = subst (λ (x : D). (disk_of t).faults ≤ (d.state x).faults) (sym quiet.disk) (omega arith);
+    tells = ap (λ (x : D). (d.state x).tells) quiet.disk;
     place = quiet.place.next;
     epoch = quiet.place.epoch;
     ends = ends;

@@ -1,5 +1,5 @@
 -- The maps of the bases of the tables now.
-use Rattle.std.specs.Prelude.{◌≡◌, ◌<◌, ℕ, suc, T, List, length, Option, Some, None}
+use Rattle.std.specs.Prelude.{◌≡◌, ◌<◌, ℕ, suc, T, List, length, Option, Some, None, IsTrue}
 use Rattle.std.proofs.Common.{sym, ◌∙◌, ap, subst, arith}
 use Rattle.std.specs.Ordering.{nat_cmp}
 use Rattle.std.specs.FinMap.Entries.{is_sorted}
@@ -9,25 +9,44 @@ use Rattle.table_records.specs.Tables.{file_codec}
 use Rattle.table_records.specs.declared.records.FileRecord.{FileRecord}
 use Rattle.row_reading.specs.Reading.{IsReadable}
 use Rattle.volume_inside.specs.Bases.{Bases, bases_of}
-use Rattle.volume_inside.specs.ChunkRules.{BaseHolds}
+use Rattle.volume_inside.specs.ChunkRules.{BaseHolds, MapsHold}
 use Rattle.volume_inside.specs.ChunkTables.{ChunkTables}
 use Rattle.volume_inside.specs.Entries.{Each}
 use Rattle.volume_inside.specs.Typed.{Typed}
-use Rattle.volume_inside.specs.Rules.{AreBare, RulesHold}
-use Rattle.volume_inside.proofs.Lawfuls.{bare_maps}
+use Rattle.volume_inside.specs.Inside.{inside_at}
 use Rattle.volume_tables.specs.Log.{log_now}
 use Rattle.volume_tables.specs.Reads.{ReadsOnly, IsTold}
-use Rattle.volume_tables.specs.Tables.{tables_now, disk_of, clusters_in, next_after, HasMaps}
+use Rattle.volume_tables.specs.Tables.{tables_now, inside_now, disk_of, next_after, HasMaps}
 use Rattle.volume_tables.proofs.Ready.{files_ready}
 use Rattle.volume_tables.proofs.Walked.{above, entries_left, walk_starts, walk_goes_on}
 use Rattle.volume_tables.specs.declared.tables.Tables.{Tables}
 
--- where no file has a base, there is no map
-pub bare_has_maps : {D : Type 0} {d : Ghosts D} (t : Tables D d) → AreBare (tables_now t).files → HasMaps t
-bare_has_maps t bare stored is = bare_maps (tables_now t) (disk_of t).image bare
+-- ---- maps that stay
 
-pub rules_have_maps : {D : Type 0} {d : Ghosts D} (t : Tables D d) → RulesHold (clusters_in t) (tables_now t) → HasMaps t
-rules_have_maps t rules = bare_has_maps t rules.bare
+-- where the disk tells still what it holds, the maps are as they should be if they were so before
+pub maps_then : {D : Type 0} {d : Ghosts D} (t u : Tables D d) → (disk_of u).tells ≡ (disk_of t).tells
+    → (MapsHold (inside_now t) → MapsHold (inside_now u)) → HasMaps t → HasMaps u
+maps_then t u tells stay maps told = stay (maps (sym tells ∙ told))
+
+-- the same inside has the same maps
+pub maps_same : {D : Type 0} {d : Ghosts D} (t u : Tables D d) → (disk_of u).tells ≡ (disk_of t).tells
+    → inside_now u ≡ inside_now t → HasMaps t → HasMaps u
+maps_same t u tells same maps = maps_then t u tells (subst MapsHold (sym same)) maps
+
+-- the maps once the tables are these, over the same bytes
+pub maps_changed : {D : Type 0} {d : Ghosts D} (t u : Tables D d) (q : Typed) → (disk_of u).tells ≡ (disk_of t).tells
+    → tables_now u ≡ q → (disk_of u).image ≡ (disk_of t).image
+    → (MapsHold (inside_now t) → MapsHold (inside_at q (disk_of t).image)) → HasMaps t → HasMaps u
+maps_changed t u q tells now image stay maps =
+    maps_then t u tells (λ hold. subst MapsHold (λ i. inside_at (sym now i) (sym image i)) (stay hold)) maps
+
+-- as tables that are only read do
+pub maps_read : {D : Type 0} {d : Ghosts D} (t u : Tables D d) → ReadsOnly t u → HasMaps t → HasMaps u
+maps_read t u reads maps = maps_same t u reads.leaves.tells (λ i. inside_at (reads.now i) (reads.image i)) maps
+
+-- where it is told what the stored tables are, the disk tells what it holds
+pub tables_told : {D : Type 0} {d : Ghosts D} (t : Tables D d) → IsTold t → IsTrue (disk_of t).tells
+tables_told t is = is.1.log.stands.told
 
 -- ---- the maps of files, one after another
 

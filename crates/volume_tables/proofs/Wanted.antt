@@ -19,15 +19,14 @@ use Rattle.volume_inside.specs.Typed.{Typed}
 use Rattle.meta_log.specs.Log.{epochs_for}
 use Rattle.volume_tables.specs.Log.{log_epoch, log_place}
 use Rattle.volume_tables.specs.Pending.{Pending, committed, worn_out, pending_of, after_commit, committed_of, roomed_of, worn_of}
-use Rattle.volume_tables.specs.Tables.{tables_now, states_of, staged_of, checkpoint_of, clusters_in, disk_of, stopped, due_of, would_wear, IsRoomFor}
+use Rattle.volume_tables.specs.Tables.{tables_now, inside_now, states_of, staged_of, checkpoint_of, clusters_in, disk_of, stopped, due_of, would_wear, IsRoomFor}
 use Rattle.volume_tables.specs.declared.tables.Tables.{Tables}
 use Rattle.volume_tables.specs.Sound.{IsSound}
 use Rattle.volume_tables.proofs.Roomed.{commit_left}
 use Rattle.volume_tables.proofs.Spared.{rises}
 use Rattle.volume_tables.proofs.Stagings.{on_ok_any}
 use Rattle.volume_tables.specs.Wants.{Needs, last_id, free_of, has_room, wanting, is_late, reply_of, IsReplied, IsWanting}
-use Rattle.volume_inside.specs.Rules.{AreBare}
-use Rattle.volume_tables.proofs.Mapped.{bare_has_maps}
+use Rattle.volume_tables.proofs.Mapped.{maps_same}
 
 -- ---- replies
 
@@ -280,11 +279,12 @@ module _ {D : Type 0} {d : Ghosts D} (t : Tables D d) (n : Needs) where
 
 module _ {D : Type 0} {d : Ghosts D} (t u : Tables D d) where
   -- it holds after a call that changed no table and no count of clusters
-  pub sound_same : IsSound t → clusters_in u ≡ clusters_in t → tables_now u ≡ tables_now t → (stopped u ≡ false → stopped t ≡ false)
+  pub sound_same : IsSound t → clusters_in u ≡ clusters_in t → tables_now u ≡ tables_now t → inside_now u ≡ inside_now t
+      → (disk_of u).tells ≡ (disk_of t).tells → (stopped u ≡ false → stopped t ≡ false)
       → (stopped u ≡ false → free_in (states_of u) + deferred_in (states_of u) ≡ free_in (states_of t) + deferred_in (states_of t)) → IsSound u
-  sound_same sound clusters now ran counts = record {
+  sound_same sound clusters now inside tells ran counts = record {
     rules = subst (λ (p : ℕ × Typed). RulesHold p.0 p.1) (λ i. (sym clusters i, sym now i)) sound.rules;
-    maps = bare_has_maps u (subst (λ (q : Typed). AreBare q.files) (sym now) sound.rules.bare);
+    maps = maps_same t u tells inside sound.maps;
     counted = λ runs.
         let counted = sound.counted (ran runs) in
         let same = counts runs in

@@ -47,6 +47,7 @@ module _ {D : Type 0} {d : Ghosts D} where
         keeps_then (disk_of a) (disk_of b) (disk_of c) (Shows (area_of a) w) one two;
     same = next a.log.disk b.log.disk c.log.disk first.same second.same;
     later = omega (arith, first.later, second.later);
+    tells = second.tells ∙ first.tells;
     place = second.place ∙ first.place;
     epoch = second.epoch ∙ first.epoch;
     ends = second.ends ∙ first.ends;
@@ -60,6 +61,7 @@ module _ {D : Type 0} {d : Ghosts D} where
     moments = λ stored w is kept. keeps_start (disk_of t) (Shows (area_of t) w) kept;
     same = same;
     later = omega arith;
+    tells = refl;
     place = refl;
     epoch = refl;
     ends = refl;

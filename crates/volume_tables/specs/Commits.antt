@@ -12,7 +12,7 @@ use Rattle.volume_inside.specs.Shows.{Kept, ShowsEither}
 use Rattle.volume_tables.specs.Log.{log_epoch, IsSameLog}
 use Rattle.volume_tables.specs.Pending.{pending_of, worn_out, after_commit}
 use Rattle.volume_tables.specs.Tables.{tables_now, inside_now, view_now, states_of, checkpoint_of, disk_of, area_of}
-use Rattle.volume_tables.specs.Tables.{due_of, would_wear, stopped, IsTables}
+use Rattle.volume_tables.specs.Tables.{due_of, would_wear, stopped, IsTables, KeepsNamed}
 use Rattle.volume_tables.specs.declared.tables.Tables.{Tables}
 
 module _ {D : Type 0} {d : Ghosts D} where
@@ -29,6 +29,8 @@ module _ {D : Type 0} {d : Ghosts D} where
     -- what stays
     pub now : tables_now new ≡ tables_now old
     pub inside : inside_now new ≡ inside_now old
+    -- what any tables name apart from the journal has the bytes that it had
+    pub frame : KeepsNamed old new
     pub clusters : new.clusters ≡ old.clusters
     pub checkpoint : checkpoint_of new ≡ checkpoint_of old
     pub same : IsSameLog old.log new.log
@@ -50,5 +52,6 @@ module _ {D : Type 0} {d : Ghosts D} where
     pub runs : OnOk result (stopped new ≡ false)
     pub still_runs : IsErrOf result Worn → stopped new ≡ false
     -- the disk's counts do not fall
+    pub tells : (disk_of new).tells ≡ (disk_of old).tells
     pub moment : (disk_of old).moment ≤ (disk_of new).moment
     pub later : (disk_of old).faults ≤ (disk_of new).faults

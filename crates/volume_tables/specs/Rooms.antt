@@ -15,7 +15,7 @@ use Rattle.volume_tables.specs.Log.{log_epoch, IsSameLog}
 use Rattle.volume_tables.specs.Pending.{pending_of, worn_out, after_commit, roomed_of, worn_of}
 use Rattle.volume_tables.specs.Sound.{IsSound, Endures, Spares}
 use Rattle.volume_tables.specs.Tables.{tables_now, inside_now, view_now, states_of, checkpoint_of, disk_of, area_of}
-use Rattle.volume_tables.specs.Tables.{clusters_in, would_wear, stopped, IsTables, IsRoomFor, GoesOn}
+use Rattle.volume_tables.specs.Tables.{clusters_in, would_wear, stopped, IsTables, IsRoomFor, GoesOn, KeepsNamed}
 use Rattle.volume_tables.specs.Wants.{Needs, last_id, wanting, IsWanting}
 use Rattle.volume_tables.specs.declared.tables.Tables.{Tables}
 
@@ -32,6 +32,8 @@ module _ {D : Type 0} {d : Ghosts D} where
     -- what stays
     pub now : tables_now new ≡ tables_now old
     pub inside : inside_now new ≡ inside_now old
+    -- what any tables name apart from the journal has the bytes that it had
+    pub frame : KeepsNamed old new
     pub clusters : new.clusters ≡ old.clusters
     pub checkpoint : checkpoint_of new ≡ checkpoint_of old
     pub same : IsSameLog old.log new.log
@@ -62,6 +64,7 @@ module _ {D : Type 0} {d : Ghosts D} where
     pub runs : OnOk result (stopped new ≡ false)
     pub stops : stopped new ≡ true → IsErrOf result Failed
     -- the disk's counts do not fall
+    pub tells : (disk_of new).tells ≡ (disk_of old).tells
     pub moment : (disk_of old).moment ≤ (disk_of new).moment
     pub later : (disk_of old).faults ≤ (disk_of new).faults
 
@@ -78,7 +81,10 @@ module _ {D : Type 0} {d : Ghosts D} where
     -- what stays
     pub now : tables_now new ≡ tables_now old
     pub inside : inside_now new ≡ inside_now old
+    -- what any tables name apart from the journal has the bytes that it had
+    pub frame : KeepsNamed old new
     pub checkpoint : checkpoint_of new ≡ checkpoint_of old
+    pub tells : (disk_of new).tells ≡ (disk_of old).tells
     pub sound : IsSound new
     -- what a crash shows during it and then
     pub endures : Endures old new

@@ -1,5 +1,5 @@
 -- What the tables stand for.
-use Rattle.std.specs.Prelude.{◌≡◌, ◌⊎◌, ◌↔◌, ◌≤◌, ◌<◌, ◌+◌, ◌*◌, ℕ, Bool, List, Option, None, Some, IsSome, Result, IsOk, IsErrOf, OnOk, OnErr}
+use Rattle.std.specs.Prelude.{◌≡◌, ◌⊎◌, ◌↔◌, ◌≤◌, ◌<◌, ◌+◌, ◌*◌, ℕ, Bool, List, Option, None, Some, IsSome, IsTrue, Result, IsOk, IsErrOf, OnOk, OnErr}
 use Rattle.std.specs.declared.cmp.Ordering.{Ordering}
 use Rattle.vdisk.specs.Disk.{DiskState}
 use Rattle.vdisk.specs.Steps.{Keeps}
@@ -119,9 +119,14 @@ module _ {D : Type 0} {d : Ghosts D} where
     pub free : (k : ℕ) → IsIn (states_of t) k Free → IsOut (first_data_cluster t.clusters + k) (clusters_of stored)
     pub tails : AreTailsFree stored (tables_now t).chunks
 
-  -- where it is known what is stored, the maps of the bases of the tables now are as they should be
+  -- what any tables name apart from the journal has the bytes that it had
+  abbrev pub KeepsNamed : Tables D d → Tables D d → Type 0
+  KeepsNamed old new = (u : Typed) → IsApart journal_at (2 * half_bytes old.clusters) (named u)
+      → inside_at u (disk_of new).image ≡ inside_at u (disk_of old).image
+
+  -- where the disk tells what it holds, the maps of the bases of the tables now are as they should be
   abbrev pub HasMaps : Tables D d → Type 0
-  HasMaps t = (stored : Typed) → IsTables t stored → MapsHold (inside_now t)
+  HasMaps t = IsTrue (disk_of t).tells → MapsHold (inside_now t)
 
   -- What a call that makes nothing durable leaves: at any moment of it a crash shows what was kept.
   pub record Leaves (old new : Tables D d) : Type 0 where
@@ -131,6 +136,7 @@ module _ {D : Type 0} {d : Ghosts D} where
         → Keeps (disk_of old) (disk_of new) (Shows (area_of old) w)
     pub same : IsSameLog old.log new.log
     pub later : (disk_of old).faults ≤ (disk_of new).faults
+    pub tells : (disk_of new).tells ≡ (disk_of old).tells
     -- where the next group goes, the epoch, the ends of jobs, and whether a commit was worn
     pub place : log_place new.log ≡ log_place old.log
     pub epoch : log_epoch new.log ≡ log_epoch old.log

@@ -22,7 +22,7 @@ ghost use Rattle.volume_tables.specs.Staging.{IsQuiet};
 ghost use Rattle.volume_inside.specs.Shows.{Kept};
 ghost use Rattle.meta_log.specs.declared.limits.TheConstants.{CHECKPOINT_HEAD, GROUP_HEAD, RECORD_HEAD, MOST_STAGED};
 ghost use Rattle.volume_tables.specs.Mounted.{IsOpened};
-ghost use Rattle.volume_tables.specs.Tables.{tables_now, area_of, disk_of, IsToldBy, IsTables};
+ghost use Rattle.volume_tables.specs.Tables.{tables_now, area_of, disk_of, IsToldBy, IsTables, HasMaps};
 
 use crate::mounting::{assemble, mount_fault};
 use crate::tables::Tables;
@@ -321,6 +321,7 @@ impl<D: Disk> Tables<D> {
         ensures tables { IsTrue (D.state disk).tells → IfOk result (λ tables. IsTables tables fresh_tables) }
         ensures kept { IsTrue (D.state disk).tells → IfOk result (λ tables. Kept (area_of tables) (disk_of tables) []) }
         ensures opened { IfOk result IsOpened }
+        ensures maps { IfOk result HasMaps }
         ensures now { IfOk result (λ tables. tables_now tables ≡ fresh_tables) }
         ensures clusters { IfOk result (λ tables. tables.clusters ≡ clusters) }
         ensures first { IfOk result (λ tables. log_epoch tables.log ≡ 1) }

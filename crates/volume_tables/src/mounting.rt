@@ -19,7 +19,7 @@ ghost use Rattle.volume_tables.specs.Mount.{read_meta, IsLogFault};
 ghost use Rattle.volume_tables.specs.Mount.{IsInnerFault, IsMountFault, mount_fault_of};
 ghost use Rattle.volume_tables.specs.Mounted.{IsMountedFrom, IsOpened, AreTablesOf};
 ghost use Rattle.volume_tables.specs.Log.{log_now};
-ghost use Rattle.volume_tables.specs.Tables.{tables_now, inside_now, view_now, area_of, disk_of, IsToldBy, IsTables};
+ghost use Rattle.volume_tables.specs.Tables.{tables_now, inside_now, view_now, area_of, disk_of, IsToldBy, IsTables, HasMaps};
 
 use crate::ends::JobEnds;
 use crate::front::read_front;
@@ -155,6 +155,7 @@ impl<D: Disk> Tables<D> {
         ensures kept { IsTrue (D.state disk).tells →
             IfOk result (λ tables. Kept (area_of tables) (disk_of tables) (view_now tables)) }
         ensures opened { IfOk result IsOpened }
+        ensures maps { IfOk result HasMaps }
         ensures refused { IfErr result (λ e. IsMountFault (D.state disk) (D.state e.0) e.1) }
         ensures read { IfOk result (λ tables. IsOnlyRead (D.state disk) (disk_of tables)) }
         ensures read_err { IfErr result (λ e. IsOnlyRead (D.state disk) (D.state e.0)) }

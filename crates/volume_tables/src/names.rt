@@ -3,6 +3,7 @@
 ghost use Rattle.std.specs.Prelude.{◌≡◌, ◌≤◌, ◌+◌, not, length, IfSome};
 ghost use Rattle.std.specs.Option.{option_map};
 ghost use Rattle.std.specs.FinMap.Entries.{find};
+ghost use Rattle.groundwork.specs.declared.limits.TheConstants.{MOST_NAME_BYTES};
 ghost use Rattle.byte_map.specs.Words.{bytes_cmp};
 ghost use Rattle.table_records.specs.Changes.{is_in_range};
 ghost use Rattle.volume_inside.specs.Changes.{with_name, keep_names};
@@ -21,7 +22,7 @@ impl<D: Disk> Tables<D> {
 
     /// The file of a name.
     pub fn get_name(&self, name: &[u8]) -> Option<u64>
-        requires { length name.now ≤ 255 }
+        requires { length name.now ≤ MOST_NAME_BYTES }
         ensures { result ≡ find bytes_cmp name.now (tables_now self.now).names }
     {
         raw_names::get_name(&self.log, name)
@@ -29,7 +30,7 @@ impl<D: Disk> Tables<D> {
 
     /// The name above `after` that is the least in the order of their bytes, or the least of all, with its file.
     pub fn next_name<'a>(&'a self, after: Option<&[u8]>) -> Option<(&'a [u8], u64)>
-        requires { IfSome after (λ name. length name.now ≤ 255) }
+        requires { IfSome after (λ name. length name.now ≤ MOST_NAME_BYTES) }
         ensures { option_map (λ p. (p.0.now, p.1)) result ≡
             next_after bytes_cmp (option_map (λ name. name.now) after.entry) (tables_now self.now).names }
     {
@@ -53,10 +54,10 @@ impl<D: Disk> Tables<D> {
         self.log.pairs().count() as u64 - self.names
     }
 
-    /// Sets the file of a name, which has at most 255 bytes. Room for 14 bytes of records and those of the name was
+    /// Sets the file of a name, which has at most `MOST_NAME_BYTES`. Room for 14 bytes of records and those of the name was
     /// ensured.
     pub fn set_name(&mut self, name: &[u8], id: u64) -> Result<(), Fault>
-        requires short { length name.now ≤ 255 }
+        requires short { length name.now ≤ MOST_NAME_BYTES }
         requires room { staged_of self.old + (14 + length name.now) ≤ MOST_RECORDS }
         ensures { IsSetIn (with_name name.now id) (find bytes_cmp name.now (tables_now self.old).names)
             (14 + length name.now) self.old self.new result }
@@ -67,11 +68,11 @@ impl<D: Disk> Tables<D> {
         answer
     }
 
-    /// Drops the names from one on, all of them or those below another. Each has at most 255 bytes. Room for 262
+    /// Drops the names from one on, all of them or those below another. Each has at most `MOST_NAME_BYTES`. Room for 262
     /// bytes of records and those of the first name was ensured.
     pub fn drop_name(&mut self, from: &[u8], to: Option<&[u8]>)
-        requires short { length from.now ≤ 255 }
-        requires short_end { IfSome to (λ name. length name.now ≤ 255) }
+        requires short { length from.now ≤ MOST_NAME_BYTES }
+        requires short_end { IfSome to (λ name. length name.now ≤ MOST_NAME_BYTES) }
         requires room { staged_of self.old + (262 + length from.now) ≤ MOST_RECORDS }
         ensures { IsDroppedIn (keep_names (λ name. not (is_in_range bytes_cmp from.now (option_map
             (λ name. name.now) to.entry) name)))

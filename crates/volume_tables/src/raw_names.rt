@@ -3,6 +3,7 @@
 ghost use Rattle.std.specs.Prelude.{◌≡◌, ◌≤◌, ◌+◌, length, Some, None, IfSome};
 ghost use Rattle.std.specs.Option.{option_map};
 ghost use Rattle.std.specs.FinMap.Entries.{find};
+ghost use Rattle.groundwork.specs.declared.limits.TheConstants.{MOST_NAME_BYTES};
 ghost use Rattle.byte_map.specs.Words.{first_of, next_in, bytes_cmp};
 ghost use Rattle.table_records.specs.Codecs.{typed, IsKeyed};
 ghost use Rattle.table_records.specs.Tables.{name_codec};
@@ -20,7 +21,7 @@ use vdisk::Disk;
 
 /// The file of a name.
 pub(crate) fn get_name<D: Disk>(log: &MetaLog<D>, name: &[u8]) -> Option<u64>
-    requires { length name.now ≤ 255 }
+    requires { length name.now ≤ MOST_NAME_BYTES }
     ensures { result ≡ find bytes_cmp name.now (typed name_codec (log_now log.now)) }
 {
     let mut spelled = [0u8; MOST_NAME_KEY_BYTES];
@@ -33,7 +34,7 @@ pub(crate) fn get_name<D: Disk>(log: &MetaLog<D>, name: &[u8]) -> Option<u64>
 
 /// The least name above one, with its file, where each key with the number of the table is one of its keys.
 pub(crate) fn next_name<'a, D: Disk>(log: &'a MetaLog<D>, after: &[u8]) -> Option<(&'a [u8], u64)>
-    requires { length after.now ≤ 255 }
+    requires { length after.now ≤ MOST_NAME_BYTES }
     ensures { SortedAnd (IsKeyed name_codec) (log_now log.now) →
         option_map (λ p. (p.0.now, p.1)) result ≡ next_in bytes_cmp after.now (typed name_codec (log_now log.now)) }
 {
@@ -61,7 +62,7 @@ pub(crate) fn first_name<D: Disk>(log: &MetaLog<D>) -> Option<(&[u8], u64)>
 
 /// Stages a name and its file. Room for the record was ensured.
 pub(crate) fn put_name<D: Disk>(log: &mut MetaLog<D>, name: &[u8], id: u64) -> Result<(), Fault>
-    requires short { length name.now ≤ 255 }
+    requires short { length name.now ≤ MOST_NAME_BYTES }
     requires room { log_staged log.old + (14 + length name.now) ≤ MOST_STAGED }
     ensures { IsStagedPut name_codec name.now id log.old log.new result }
 {
@@ -74,8 +75,8 @@ pub(crate) fn put_name<D: Disk>(log: &mut MetaLog<D>, name: &[u8], id: u64) -> R
 
 /// Stages that the names from one on and below another are dropped. Room for the record was ensured.
 pub(crate) fn drop_names<D: Disk>(log: &mut MetaLog<D>, from: &[u8], to: &[u8])
-    requires short { length from.now ≤ 255 }
-    requires short_end { length to.now ≤ 255 }
+    requires short { length from.now ≤ MOST_NAME_BYTES }
+    requires short_end { length to.now ≤ MOST_NAME_BYTES }
     requires room { log_staged log.old + (7 + (length from.now + length to.now)) ≤ MOST_STAGED }
     ensures { IsStagedDrop name_codec from.now (Some to.now) log.old log.new }
 {
@@ -89,7 +90,7 @@ pub(crate) fn drop_names<D: Disk>(log: &mut MetaLog<D>, from: &[u8], to: &[u8])
 
 /// Stages that all names from one on are dropped. Room for the record was ensured.
 pub(crate) fn drop_names_from<D: Disk>(log: &mut MetaLog<D>, from: &[u8])
-    requires short { length from.now ≤ 255 }
+    requires short { length from.now ≤ MOST_NAME_BYTES }
     requires room { log_staged log.old + (7 + length from.now) ≤ MOST_STAGED }
     ensures { IsStagedDrop name_codec from.now None log.old log.new }
 {
@@ -101,8 +102,8 @@ pub(crate) fn drop_names_from<D: Disk>(log: &mut MetaLog<D>, from: &[u8])
 
 /// Stages that the names from one on are dropped, all of them or those below another. Room for the record was ensured.
 pub(crate) fn drop_name_range<D: Disk>(log: &mut MetaLog<D>, from: &[u8], to: Option<&[u8]>)
-    requires short { length from.now ≤ 255 }
-    requires short_end { IfSome to (λ name. length name.now ≤ 255) }
+    requires short { length from.now ≤ MOST_NAME_BYTES }
+    requires short_end { IfSome to (λ name. length name.now ≤ MOST_NAME_BYTES) }
     requires room { log_staged log.old + (262 + length from.now) ≤ MOST_STAGED }
     ensures { IsStagedDrop name_codec from.now (option_map (λ name. name.now) to.entry) log.old log.new }
 {

@@ -36,7 +36,7 @@ returns-clause-call g c =
     room.now put)
 
 pub returns-clause-view : goal.returns-clause-view
-returns-clause-view g c stays =
+returns-clause-view g c told stays =
     let t = c.args.tables.now in
     let p = c.set_place.new.self in
     let k : CopyKey = (c.args.id, c.args.copy) in
@@ -44,5 +44,5 @@ returns-clause-view g c stays =
     let set = c.set_place.ensures in
     let call : IsRowCall (find pair_cmp k (tables_now t).chunks.places ≡ None) (with_place k c.args.place)
     (copy_needs k (tables_now t)) 27 t p c.set_place.result = returns-clause-call g c in
-    call.seen (λ x there. copied_stay t c.make_room.new.tables p c.args.id c.args.copy c.args.place room.now room.inside
+    call.seen told (λ x there. copied_stay t c.make_room.new.tables p c.args.id c.args.copy c.args.place room.now room.inside
     set.set.image stays c.requires.there c.set_place.result set.ok set.err x)

@@ -2,10 +2,12 @@ use Rattle.std.proofs.Common.{refl, ◌∙◌, ap}
 use Rattle.std.proofs.lemmas.Result.{on_err_weaker}
 use Rattle.volume_inside.specs.Rules.{next_id_of}
 use Rattle.volume_inside.specs.Typed.{Typed}
-use Rattle.volume_tables.specs.Tables.{tables_now, clusters_in}
+use Rattle.volume_tables.specs.Tables.{tables_now, disk_of, clusters_in}
 use Rattle.chunk_container.specs.Rows.{with_new_row, row_needs, row_bytes}
+use Rattle.chunk_container.specs.Calls.{IsRowCall}
 use Rattle.chunk_container.proofs.Added.{extends_added, view_added}
 use Rattle.chunk_container.proofs.Calls.{call_done}
+use Rattle.chunk_container.proofs.RowMaps.{maps_added}
 use Rattle.chunk_container.proofs.RowRules.{rules_new_row}
 use Rattle.chunk_container.proofs.rows.add.Goals as goal
 
@@ -31,6 +33,14 @@ returns-clause-call g c =
       running = put.running;
     })
 
+pub returns-clause-sound : goal.returns-clause-sound
+returns-clause-sound g c =
+    let t = c.args.tables.now in
+    let call : IsRowCall (Unit {0}) (with_new_row c.args.row c.args.place) row_needs row_bytes t c.put_row.new.tables
+    c.put_row.result = returns-clause-call g c in
+    call.sound (λ told. maps_added (clusters_in t) (tables_now t) c.requires.sound.rules c.args.row c.args.place
+    c.requires.new c.requires.place (disk_of t).image (c.requires.sound.maps told))
+
 pub returns-clause-extends : goal.returns-clause-extends
 returns-clause-extends g c =
     let room = c.make_room.ensures in
@@ -39,8 +49,9 @@ returns-clause-extends g c =
     c.requires.place room.now room.inside room.sound.rules put.image c.put_row.result put.ok put.err
 
 pub returns-clause-view : goal.returns-clause-view
-returns-clause-view g c =
+returns-clause-view g c told =
     let room = c.make_room.ensures in
     let put = c.put_row.ensures in
     view_added c.args.tables.now c.make_room.new.tables c.put_row.new.tables c.args.row c.args.place c.requires.new
     c.requires.place room.now room.inside room.sound.rules put.image c.put_row.result put.ok put.err
+    (room.sound.maps (room.tells ∙ told))

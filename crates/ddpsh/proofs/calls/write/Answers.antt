@@ -11,7 +11,7 @@ pub returns-clause-told : goal.returns-clause-told
 returns-clause-told g c w kept =
     let did : Called (call.Write c.args.name.now c.args.at c.args.payload.now) c.args.volume.now c.write-given.new.self (done_reply c.write-given.result) = record {
       law = c.own_replies_are_steps.ensures;
-      replied = took (call.Write c.args.name.now c.args.at c.args.payload.now) c.args.volume.now c.write-given.new.self (done_reply c.write-given.result) refl c.write-given.ensures.reply;
+      replied = took (call.Write c.args.name.now c.args.at c.args.payload.now) c.args.volume.now c.write-given.new.self (done_reply c.write-given.result) refl (c.write-given.ensures.reply w kept);
       left = c.write-given.ensures.left w kept;
       want = c.write-given.ensures.want;
       fails = refl;

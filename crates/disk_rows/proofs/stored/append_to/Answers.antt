@@ -5,4 +5,4 @@ use Rattle.disk_rows.proofs.stored.append_to.Goals as goal
 
 pub place_of-place-requires-clause-sound : goal.place_of-place-requires-clause-sound
 place_of-place-requires-clause-sound c =
-    subst IsSound (sym c.new-store.ensures.tables) (found_sound c.in-Ok.tables c.in-Ok.ensures.opened)
+    subst IsSound (sym c.new-store.ensures.tables) (found_sound c.in-Ok.tables c.in-Ok.ensures.opened c.in-Ok.ensures.maps)

@@ -1,4 +1,4 @@
-use Rattle.std.proofs.Common.{◌≡◌, ℕ, Some, refl, ◌∙◌, ap, sym, subst}
+use Rattle.std.proofs.Common.{◌≡◌, ℕ, Some, refl, ◌∙◌, ap, sym, subst, arith}
 use Rattle.std.specs.Ordering.{nat_cmp}
 use Rattle.std.specs.FinMap.{find}
 use Rattle.volume_inside.specs.Inside.{inside_at}
@@ -7,7 +7,7 @@ use Rattle.volume_inside.specs.Rules.{RulesHold}
 use Rattle.volume_inside.specs.Typed.{Typed}
 use Rattle.volume_inside.specs.View.{view}
 use Rattle.volume_tables.specs.Tables.{tables_now, disk_of, clusters_in}
-use Rattle.volume_tables.proofs.Mapped.{rules_have_maps}
+use Rattle.volume_files.proofs.FileMaps.{maps_with_file}
 use Rattle.volume_tables.proofs.Stagings.{as_ok, quiet_stages}
 use Rattle.volume_tables.specs.Stages.{Stages}
 use Rattle.volume_inside.specs.Changes.{with_file}
@@ -44,7 +44,9 @@ returns-clause-sound g c =
     (rules_dropped (clusters_in t) (tables_now t) (disk_of t).image c.requires.sound.rules c.args.file was there) in
     record {
       rules = rules;
-      maps = rules_have_maps s rules;
+      maps = maps_with_file t s c.args.file was (without_base was) (tables_now t).extents there (omega arith)
+          (λ some. absurd (some refl)) now (λ i. inside_at (tables_now t) (e.set.image i)) e.leaves.tells
+          c.requires.sound.maps;
       counted = λ runs. staged.counts ∙ c.requires.sound.counted (sym staged.running ∙ runs)
           ∙ ap data_clusters (sym staged.leaves.clusters);
     }

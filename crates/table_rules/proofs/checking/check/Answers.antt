@@ -1,7 +1,5 @@
 use Rattle.std.proofs.Common.{rules}
 use Rattle.volume_inside.specs.Typed.{typed_of}
-use Rattle.volume_inside.specs.Rules.{next_id_of}
-use Rattle.volume_inside.proofs.Lawfuls.{no_map_rows}
 use Rattle.table_rules.proofs.Marking.{data_of_rules}
 use Rattle.table_rules.proofs.checking.check.Goals as goal
 
@@ -13,16 +11,13 @@ mark_clusters-requires-clause-data c =
 
 pub returns-in-Some-clause-volume : goal.returns-in-Some-clause-volume
 returns-in-Some-clause-volume c =
-    let t = typed_of c.args.map.now in
-    let files = c.files_hold.ensures.0 c.if-not-files_hold.false in
     record {
       spelled = c.in_ok-records.ensures.spelled;
       rules = record {
         records = c.in_ok-records.ensures.hold;
         names = search rules;
-        files = files.0;
-        map_rows = no_map_rows (next_id_of t) t.chunks.rows t.files files.0 files.1;
-        bare = files.1;
+        files = c.files_hold.ensures.0 c.if-not-files_hold.false;
+        map_rows = c.map_rows_hold.ensures.0 c.if-not-map_rows_hold.false;
         extents = c.extents_hold.ensures.0 c.if-not-extents_hold.false;
         chunks = record {
           rows = c.rows_hold.ensures.0 c.if-not-rows_hold.false;

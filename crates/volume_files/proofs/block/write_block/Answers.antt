@@ -1,28 +1,17 @@
-use Rattle.std.proofs.Common.{◌≡◌, ◌<◌, ◌+◌, ◌-◌, ◌*◌, ℕ, List, take, get_or, length, min, sym, ◌∙◌, ap, subst, arith}
-use Rattle.std.specs.Prelude.{Option}
-use Rattle.std.specs.Option.{option_map}
+use Rattle.std.proofs.Common.{◌≡◌, ◌+◌, ◌-◌, ◌*◌, ℕ, List, take, length, min, sym, ◌∙◌, ap, subst, arith}
 use Rattle.std.specs.FinMap.{find}
-use Rattle.std.proofs.lemmas.List.{get_or-take}
 use Rattle.table_records.specs.Keys.{pair_cmp}
-use Rattle.table_records.specs.declared.records.Extent.{Extent}
 use Rattle.volume_inside.specs.Inside.{Inside, block_of, cluster_bytes, inside_at}
 use Rattle.volume_inside.specs.Typed.{Typed, FileBlock}
-use Rattle.volume_inside.specs.Changes.{with_block, with_file}
+use Rattle.volume_inside.specs.Changes.{with_block}
 use Rattle.volume_tables.specs.Tables.{tables_now, disk_of}
 use Rattle.volume_tables.proofs.Leaving.{leaves_then}
-use Rattle.volume_files.specs.Insides.{block_written}
+use Rattle.volume_files.specs.Edges.{edge_byte}
 use Rattle.volume_files.specs.Writing.{without_first, AreAhead, AreFilled}
 use Rattle.volume_files.proofs.Ahead.{free_still, first_free, rest_free, first_low, first_whole}
-use Rattle.volume_files.proofs.BlockSet.{readable, rules_same, rules_block, inside_set}
+use Rattle.volume_files.proofs.BlockSet.{rules_same, rules_block, inside_set}
 use Rattle.volume_files.proofs.Insides.{block_is_written}
-use Rattle.volume_files.proofs.Owned.{find-blocks}
 use Rattle.volume_files.proofs.block.write_block.Goals as goal
-
-pub write_ahead-requires-clause-readable : goal.write_ahead-requires-clause-readable
-write_ahead-requires-clause-readable g c =
-    let t = c.args.tables.now in
-    let k : FileBlock = (c.args.key.0, c.args.key.1) in
-    readable t.clusters (with_file k.0 c.args.grown (tables_now t)) k c.args.was c.requires.rules.extents c.requires.is
 
 pub name_block-requires-clause-some : goal.name_block-requires-clause-some
 name_block-requires-clause-some g c =
@@ -60,37 +49,21 @@ returns-clause-inside g c =
     (ap (λ (image : List ℕ). inside_at (tables_now h) image) c.name_block.ensures.image)
     ∙ ap (λ (i : Inside). with_block k (block_of e (disk_of s).image) i) c.write_ahead.ensures.same
 
-pub returns-clause-written : goal.returns-clause-written
-returns-clause-written g c stored is ahead o low reach =
-    let valid = c.min-valid.result in
-    let block = cluster_bytes c.in_ok-ready.ready.first (disk_of c.write_ahead.new.tables).image in
-    let n = c.in_ok-extent.ensures in
-    let under : o < valid = omega arith in
-    ap (λ (xs : List ℕ). get_or xs o 0)
-    (λ i. take (n.valid i) (cluster_bytes (n.cluster i) (c.name_block.ensures.image i)))
-    ∙ get_or-take valid block o 0 under
-    ∙ c.in_ok-ready.ensures.block stored is ahead o low
-
 pub returns-clause-block : goal.returns-clause-block
 returns-clause-block g c stored is ahead =
-    let t = c.args.tables.now in
     let h = c.write_ahead.new.tables in
     let run = c.in_ok-ready.ready in
-    let k : FileBlock = (c.args.key.0, c.args.key.1) in
-    let image = (disk_of t).image in
-    let block = cluster_bytes run.first (disk_of h).image in
+    let index = c.args.key.1 in
     let len = c.args.grown.length in
     let valid = c.min-valid.result in
     let n = c.in_ok-extent.ensures in
-    let whole : length block ≡ 4096 = first_whole h h run c.in_ok-ready.ensures.some
-    (free_still t h run c.write_ahead.ensures.leaves.clusters c.write_ahead.ensures.states c.in_ok-ready.ensures.free) in
-    let size : valid ≡ min 4096 (len - 4096 * k.1) = omega arith in
-    let found = find-blocks k (tables_now t).extents image
-    ∙ ap (λ (o : Option Extent). option_map (λ e. block_of e image) o) (sym c.requires.is) in
+    let whole = first_whole h h run c.in_ok-ready.ensures.some
+    (free_still c.args.tables.now h run c.write_ahead.ensures.leaves.clusters c.write_ahead.ensures.states
+    c.in_ok-ready.ensures.free) in
+    let size : valid ≡ min 4096 (len - 4096 * index) = omega arith in
     (λ i. take (n.valid i) (cluster_bytes (n.cluster i) (c.name_block.ensures.image i)))
-    ∙ block_is_written len c.args.at k.1 c.args.bytes.now image block valid c.args.was whole size
-    (c.in_ok-ready.ensures.block stored is ahead)
-    ∙ ap (λ (o : Option (List ℕ)). block_written len c.args.at c.args.bytes.now k.1 o) (sym found)
+    ∙ block_is_written len c.args.at index c.args.bytes.now (cluster_bytes run.first (disk_of h).image) valid
+    (edge_byte c.args.edges.now c.args.at) whole size (c.in_ok-ready.ensures.block stored is ahead)
 
 pub returns-clause-free_ahead : goal.returns-clause-free_ahead
 returns-clause-free_ahead g c =

@@ -1,4 +1,4 @@
-use Rattle.std.proofs.Common.{◌≡◌, ◌≤◌, ◌<◌, ◌+◌, ◌-◌, ◌*◌, ℕ, length, sym, ◌∙◌, ap, subst, inl, inr, ⊎_elim, arith}
+use Rattle.std.proofs.Common.{◌≡◌, ◌≤◌, ◌<◌, ◌+◌, ◌-◌, ◌*◌, ℕ, length, sym, ◌∙◌, ap, subst, arith}
 use Rattle.std.specs.Prelude.{Option}
 use Rattle.std.specs.FinMap.{find}
 use Rattle.cluster_space.specs.declared.state.State.TheVariants.{Used, Deferred}
@@ -10,16 +10,15 @@ use Rattle.volume_inside.specs.Typed.{Typed, FileBlock}
 use Rattle.volume_tables.specs.Clusters.{HasState}
 use Rattle.volume_tables.specs.Tables.{tables_now, inside_now, new_bytes, checkpoint_of, disk_of}
 use Rattle.volume_tables.proofs.Leaving.{leaves_then, found_used}
+use Rattle.volume_files.specs.Edges.{edge_byte}
 use Rattle.volume_files.specs.Needs.{missing}
 use Rattle.volume_files.specs.Writing.{blocks_up_to}
 use Rattle.volume_files.proofs.Extents.{found_put}
 use Rattle.volume_files.proofs.Setting.{sorted_now, held_now}
 use Rattle.volume_files.proofs.States.{places_differ, used_is_not_deferred}
-use Rattle.volume_files.proofs.Touched.{fits_next, extents_then, cells_then, cell_apart}
-use Rattle.volume_files.proofs.Owned.{own_beside, own_with_extent}
+use Rattle.volume_files.proofs.Touched.{fits_next, extents_then, cell_apart}
 use Rattle.volume_files.proofs.Spent.{spends_none, spends_then, spends_block}
 use Rattle.volume_files.proofs.Insides.{blocks_then}
-use Rattle.volume_files.proofs.ReadFirst.{reads_later}
 use Rattle.volume_files.proofs.blocks.+write_blocks.Goals as goal
 
 pub write_blocks-requires : goal.write_blocks-requires
@@ -51,19 +50,14 @@ write_blocks-requires g t c κs within =
                   (
                     omega (arith, c.requires.from_first),
                     (
-                      own_with_extent (tables_now a) c.args.file c.args.at (length c.args.bytes.now) c.args.grown
-                          (c.args.file, c.args.index) c.in_ok-written.written.extent (tables_now u) w.ok
-                          c.requires.own,
+                      omega (arith, fewer, w.free, c.requires.clusters),
                       (
-                        omega (arith, fewer, w.free, c.requires.clusters),
+                        omega (arith, fewer, w.staged, c.requires.room),
                         (
-                          omega (arith, fewer, w.staged, c.requires.room),
-                          (
-                            subst (λ (n : ℕ). checkpoint_of u + 24 * missing (tables_now u) c.args.file
-                                (c.args.index + 1) (blocks_up_to to (c.args.index + 1)) ≤ half_bytes n)
-                                (sym w.leaves.clusters) fits,
-                            (w.free_ahead, w.filled),
-                          ),
+                          subst (λ (n : ℕ). checkpoint_of u + 24 * missing (tables_now u) c.args.file
+                              (c.args.index + 1) (blocks_up_to to (c.args.index + 1)) ≤ half_bytes n)
+                              (sym w.leaves.clusters) fits,
+                          (w.free_ahead, w.filled),
                         ),
                       ),
                     ),
@@ -109,20 +103,6 @@ returns-in-Ok-clause-others g t c other p record_of differ =
     ∙ cell_apart (inside_now c.args.tables.now) (inside_now c.write_block.new.tables) c.args.file c.args.index
     (block_of c.in_ok-written.written.extent image) other p record_of differ
     c.in_ok-written.ensures.inside
-
-pub returns-in-Ok-clause-cells : goal.returns-in-Ok-clause-cells
-returns-in-Ok-clause-cells g t c stored is ahead p low =
-    let a = c.args.tables.now in
-    let u = c.write_block.new.tables in
-    let e = c.in_ok-written.written.extent in
-    c.in-Ok.ensures.cells stored (c.write_block.ensures.leaves.tables stored is)
-    (c.in_ok-written.ensures.ahead stored is ahead) p low
-    ∙ cells_then c.args.file c.args.index c.args.at c.args.bytes.now c.args.grown c.get_extent-was.result
-    (tables_now a) (disk_of a).image (block_of e (disk_of u).image) (inside_now u)
-    (own_beside (tables_now a) c.args.file c.args.at (length c.args.bytes.now) c.args.grown c.requires.own c.args.index
-    c.get_extent-was.result (sym c.get_extent-was.ensures) c.requires.from_first (omega arith))
-    (sym c.get_extent-was.ensures)
-    c.in_ok-written.ensures.inside (c.in_ok-written.ensures.written stored is ahead) p low
 
 pub returns-in-Ok-clause-leaves : goal.returns-in-Ok-clause-leaves
 returns-in-Ok-clause-leaves g t c =
@@ -188,18 +168,9 @@ returns-in-Ok-clause-inside g t c stored is ahead =
     let e = c.in_ok-written.written.extent in
     c.in-Ok.ensures.inside stored (c.write_block.ensures.leaves.tables stored is)
     (c.in_ok-written.ensures.ahead stored is ahead)
-    ∙ blocks_then c.args.file c.args.grown.length c.args.at c.args.bytes.now c.args.index
-    (c.args.at + length c.args.bytes.now) (inside_now a) (inside_now u) (block_of e (disk_of u).image) (omega arith)
+    ∙ blocks_then c.args.file c.args.grown.length c.args.at c.args.bytes.now (edge_byte c.args.edges.now c.args.at)
+    c.args.index (c.args.at + length c.args.bytes.now) (inside_now a) (inside_now u) (block_of e (disk_of u).image) (omega arith)
     c.in_ok-written.ensures.inside (c.in_ok-written.ensures.block stored is ahead)
-
-pub returns-in-Err-clause-halts : goal.returns-in-Err-clause-halts
-returns-in-Err-clause-halts g t c failed =
-    let a = c.args.tables.now in
-    let u = c.write_block.new.tables in
-    ⊎_elim (λ stops. inl (c.restore_extent.ensures.running ∙ stops))
-    (λ later. inr (reads_later c.args.file c.args.index c.args.at (length c.args.bytes.now) (tables_now a)
-    (tables_now u) c.in_ok-written.written.extent c.in_ok-written.ensures.ok later))
-    (c.in-Err.ensures.halts failed)
 
 pub returns-in-Ok-clause-staged : goal.returns-in-Ok-clause-staged
 returns-in-Ok-clause-staged g t c =

@@ -1,167 +1,66 @@
-use Rattle.std.proofs.Common.{◌≡◌, ◌+◌, ◌/◌, ℕ, List, length, refl, sym, ◌∙◌, ap, subst, arith}
-use Rattle.std.specs.Prelude.{Option, IsSome}
-use Rattle.std.specs.Ordering.{nat_cmp}
-use Rattle.std.specs.FinMap.{find}
-use Rattle.table_records.specs.declared.records.FileRecord.{FileRecord}
-use Rattle.volume_inside.specs.Inside.{inside_at}
-use Rattle.volume_inside.specs.Typed.{Typed}
-use Rattle.volume_inside.specs.Changes.{with_file}
-use Rattle.volume_inside.specs.Rules.{RulesHold}
-use Rattle.cluster_space.specs.States.{free_in}
-use Rattle.cluster_space.specs.declared.state.State.{State}
-use Rattle.volume_tables.specs.Tables.{tables_now, states_of, disk_of}
+use Rattle.std.proofs.Common.{length, sym, ◌∙◌, ap, subst}
+use Rattle.std.proofs.lemmas.Result.{on_ok_weaker}
+use Rattle.plain_volume.specs.Volume.{overwritten}
+use Rattle.volume_inside.specs.Inside.{Inside}
+use Rattle.volume_inside.specs.View.{file_cells}
 use Rattle.volume_tables.proofs.Leaving.{leaves_then}
+use Rattle.volume_files.specs.Edges.{AreEdges}
+use Rattle.volume_files.specs.Insides.{id_written}
 use Rattle.volume_files.specs.Needs.{touched}
-use Rattle.volume_files.specs.Writing.{blocks_up_to}
-use Rattle.volume_files.proofs.Owned.{own_with_file}
-use Rattle.volume_files.proofs.Setting.{held_now, on_ok_there}
-use Rattle.volume_files.proofs.Written.{rules_grown, grown_short, cells_written, others_written, on_err_any}
-use Rattle.volume_files.proofs.Written.{sound_refused, sound_written}
-use Rattle.volume_files.proofs.Spent.{spends_none, spends_then, spends_record}
-use Rattle.volume_files.proofs.Insides.{file_then}
+use Rattle.volume_files.proofs.AfterRead.{sound_read, spends_read, inside_read}
+use Rattle.volume_files.proofs.Spent.{spends_none}
 use Rattle.volume_files.proofs.writing.write_with_room.Goals as goal
 
-pub write_blocks-requires-clause-rules : goal.write_blocks-requires-clause-rules
-write_blocks-requires-clause-rules g c =
-    let t = c.args.tables.now in
-    let was = c.unwrap-grown.result in
-    let to : ℕ = c.args.at + length c.args.bytes.now in
-    let found = sym c.get_file.ensures ∙ c.unwrap-grown.ensures in
-    subst (λ (n : ℕ). RulesHold t.clusters (with_file c.args.file (record was { length = n }) (tables_now t)))
-    (sym c.max.ensures)
-    (rules_grown t.clusters (tables_now t) c.requires.sound.rules c.args.file to was found c.requires.within)
-
-pub write_blocks-requires-clause-most : goal.write_blocks-requires-clause-most
-write_blocks-requires-clause-most g c =
-    let t = c.args.tables.now in
-    let was = c.unwrap-grown.result in
-    let to : ℕ = c.args.at + length c.args.bytes.now in
-    let found = sym c.get_file.ensures ∙ c.unwrap-grown.ensures in
-    let short = grown_short t.clusters (tables_now t) c.requires.sound.rules c.args.file to was found
-    c.requires.within in
-    omega (arith, short, c.max.ensures)
-
-pub write_blocks-requires-clause-own : goal.write_blocks-requires-clause-own
-write_blocks-requires-clause-own g c =
-    let t = c.args.tables.now in
-    let was = c.unwrap-grown.result in
-    own_with_file (tables_now t) c.args.file c.args.at (length c.args.bytes.now) (record was { length = c.max.result })
-    was (sym c.get_file.ensures ∙ c.unwrap-grown.ensures) refl c.requires.own
-
-pub returns-in_err-write_blocks-clause-err_inside : goal.returns-in_err-write_blocks-clause-err_inside
-returns-in_err-write_blocks-clause-err_inside g c =
-    let t = c.args.tables.now in
-    let s = c.write_blocks.new.tables in
-    on_err_any c.from_residual.result
-    (ap (λ (q : Typed). inside_at q (disk_of s).image) c.in_err-write_blocks.ensures.err
-    ∙ c.write_blocks.ensures.frame (tables_now t) (held_now t).1.free_now)
+pub write_with_edges-requires-clause-sound : goal.write_with_edges-requires-clause-sound
+write_with_edges-requires-clause-sound g c =
+    let r = c.read_edges.ensures in
+    sound_read c.args.tables.now c.read_edges.new.tables r.now r.image r.leaves.tells r.states
+    r.leaves.clusters c.requires.sound c.requires.running
 
 pub returns-clause-cells : goal.returns-clause-cells
 returns-clause-cells g c stored is =
     let t = c.args.tables.now in
-    let b = c.write_blocks.new.tables in
-    let s = c.set_file.new.self in
-    let was = c.unwrap-grown.result in
+    let m = c.read_edges.new.tables in
+    let r = c.read_edges.ensures in
     let bytes = c.args.bytes.now in
-    let grown : FileRecord = record was { length = c.max.result } in
-    let found = sym c.get_file.ensures ∙ c.unwrap-grown.ensures in
-    let there = subst (λ (o : Option FileRecord). IsSome o) (sym
-    (ap (λ (q : Typed). find nat_cmp c.args.file q.files) c.in_ok-write_blocks.ensures.ok.rest)) c.requires.there in
-    let set = on_ok_there c.set_file.result (c.set_file.ensures.set.in_place there) c.set_file.ensures.ok in
-    cells_written t b s c.args.file c.args.at grown set c.set_file.ensures.set.image t.clusters was bytes
-    c.requires.sound.rules found
-    (λ i. record was { length = c.max.ensures i }) c.requires.some (c.in_ok-write_blocks.ensures.cells stored is (λ k low. absurd (omega (arith, low))))
-
-pub returns-clause-others : goal.returns-clause-others
-returns-clause-others g c =
-    let t = c.args.tables.now in
-    let b = c.write_blocks.new.tables in
-    let s = c.set_file.new.self in
-    let was = c.unwrap-grown.result in
-    let grown : FileRecord = record was { length = c.max.result } in
-    let there = subst (λ (o : Option FileRecord). IsSome o) (sym
-    (ap (λ (q : Typed). find nat_cmp c.args.file q.files) c.in_ok-write_blocks.ensures.ok.rest)) c.requires.there in
-    let set = on_ok_there c.set_file.result (c.set_file.ensures.set.in_place there) c.set_file.ensures.ok in
-    others_written t b s c.args.file c.args.at grown set c.set_file.ensures.set.image
-    (ap (λ (q : Typed). q.files) c.in_ok-write_blocks.ensures.ok.rest)
-    c.in_ok-write_blocks.ensures.others
-
-pub returns-clause-leaves : goal.returns-clause-leaves
-returns-clause-leaves g c =
-    leaves_then g.met.D.Disk.same_next c.args.tables.now c.write_blocks.new.tables c.set_file.new.self
-    c.write_blocks.ensures.leaves c.set_file.ensures.leaves
-
-pub returns-in_err-write_blocks-clause-spends : goal.returns-in_err-write_blocks-clause-spends
-returns-in_err-write_blocks-clause-spends g c =
-    spends_none (touched c.args.at (length c.args.bytes.now)) 0 c.args.tables.now c.write_blocks.new.tables
-    c.in_err-write_blocks.ensures.err
-
-pub returns-clause-spends : goal.returns-clause-spends
-returns-clause-spends g c =
-    let t = c.args.tables.now in
-    let b = c.write_blocks.new.tables in
-    let s = c.set_file.new.self in
-    let was = c.unwrap-grown.result in
-    let to : ℕ = c.args.at + length c.args.bytes.now in
-    let grown : FileRecord = record was { length = c.max.result } in
-    let there = subst (λ (o : Option FileRecord). IsSome o) (sym
-    (ap (λ (q : Typed). find nat_cmp c.args.file q.files) c.in_ok-write_blocks.ensures.ok.rest)) c.requires.there in
-    let set = on_ok_there c.set_file.result (c.set_file.ensures.set.in_place there) c.set_file.ensures.ok in
-    let some = c.requires.some in
-    spends_then (blocks_up_to to (c.args.at / 4096)) 0 (touched c.args.at (length c.args.bytes.now)) t b s
-    c.write_blocks.ensures.spends (spends_record b s c.args.file grown set) (omega (arith, some))
+    let same = inside_read t m r.now r.image in
+    on_ok_weaker c.write_with_edges.result
+    (λ cells. cells ∙ ap (λ (i : Inside). overwritten c.args.at bytes (file_cells i c.args.file)) same)
+    (c.write_with_edges.ensures.cells stored (r.leaves.tables stored is)
+    (subst (λ (i : Inside). AreEdges i c.args.file c.args.at (length bytes) c.in_ok-edges.edges) (sym same)
+    (c.in_ok-edges.ensures.edges stored is)))
 
 pub returns-clause-inside : goal.returns-clause-inside
 returns-clause-inside g c stored is =
     let t = c.args.tables.now in
-    let b = c.write_blocks.new.tables in
-    let s = c.set_file.new.self in
-    let was = c.unwrap-grown.result in
-    let grown : FileRecord = record was { length = c.max.result } in
-    let found = sym c.get_file.ensures ∙ c.unwrap-grown.ensures in
-    let there = subst (λ (o : Option FileRecord). IsSome o) (sym
-    (ap (λ (q : Typed). find nat_cmp c.args.file q.files) c.in_ok-write_blocks.ensures.ok.rest)) c.requires.there in
-    let set = on_ok_there c.set_file.result (c.set_file.ensures.set.in_place there) c.set_file.ensures.ok in
-    file_then t b s c.args.file c.args.at grown was c.args.bytes.now set c.set_file.ensures.set.image found
-    (λ i. record was { length = c.max.ensures i }) c.requires.some (c.in_ok-write_blocks.ensures.inside stored is (λ k low. absurd (omega (arith, low))))
+    let m = c.read_edges.new.tables in
+    let r = c.read_edges.ensures in
+    let bytes = c.args.bytes.now in
+    let same = inside_read t m r.now r.image in
+    on_ok_weaker c.write_with_edges.result
+    (λ written. written ∙ ap (λ (i : Inside). id_written c.args.file c.args.at bytes i) same)
+    (c.write_with_edges.ensures.inside stored (r.leaves.tables stored is)
+    (subst (λ (i : Inside). AreEdges i c.args.file c.args.at (length bytes) c.in_ok-edges.edges) (sym same)
+    (c.in_ok-edges.ensures.edges stored is)))
 
-pub returns-clause-staged : goal.returns-clause-staged
-returns-clause-staged g c =
-    let there = subst (λ (o : Option FileRecord). IsSome o) (sym
-    (ap (λ (q : Typed). find nat_cmp c.args.file q.files) c.in_ok-write_blocks.ensures.ok.rest)) c.requires.there in
-    let set = on_ok_there c.set_file.result (c.set_file.ensures.set.in_place there) c.set_file.ensures.set.staged in
-    let some = c.requires.some in
-    let same : blocks_up_to (c.args.at + length c.args.bytes.now) (c.args.at / 4096) ≡ touched c.args.at
-    (length c.args.bytes.now) = omega (arith, some) in
-    omega (arith, set, same, c.in_ok-write_blocks.ensures.staged)
+pub returns-clause-leaves : goal.returns-clause-leaves
+returns-clause-leaves g c =
+    leaves_then g.met.D.Disk.same_next c.args.tables.now c.read_edges.new.tables c.write_with_edges.new.tables
+    c.read_edges.ensures.leaves c.write_with_edges.ensures.leaves
 
-pub returns-clause-taken : goal.returns-clause-taken
-returns-clause-taken g c =
-    let some = c.requires.some in
-    let same : blocks_up_to (c.args.at + length c.args.bytes.now) (c.args.at / 4096) ≡ touched c.args.at
-    (length c.args.bytes.now) = omega (arith, some) in
-    let free : free_in (states_of c.set_file.new.self) ≡ free_in (states_of c.write_blocks.new.tables) =
-    ap (λ (xs : List State). free_in xs) c.set_file.ensures.states in
-    omega (arith, same, free, c.in_ok-write_blocks.ensures.taken)
+pub returns-clause-spends : goal.returns-clause-spends
+returns-clause-spends g c =
+    spends_read c.args.tables.now c.read_edges.new.tables c.read_edges.ensures.now
+    (touched c.args.at (length c.args.bytes.now)) c.write_with_edges.new.tables c.write_with_edges.ensures.spends
 
-pub returns-in_err-write_blocks-clause-sound : goal.returns-in_err-write_blocks-clause-sound
-returns-in_err-write_blocks-clause-sound g c =
-    let leaves = c.write_blocks.ensures.leaves in
-    sound_refused c.args.tables.now c.write_blocks.new.tables c.requires.sound c.requires.running leaves.clusters
-    c.in_err-write_blocks.ensures.err c.write_blocks.ensures.loses_none
+pub returns-in_err-edges-clause-sound : goal.returns-in_err-edges-clause-sound
+returns-in_err-edges-clause-sound g c =
+    let r = c.read_edges.ensures in
+    sound_read c.args.tables.now c.read_edges.new.tables r.now r.image r.leaves.tells r.states
+    r.leaves.clusters c.requires.sound
+    c.requires.running
 
-pub returns-clause-sound : goal.returns-clause-sound
-returns-clause-sound g c =
-    let t = c.args.tables.now in
-    let b = c.write_blocks.new.tables in
-    let s = c.set_file.new.self in
-    let was = c.unwrap-grown.result in
-    let grown : FileRecord = record was { length = c.max.result } in
-    let there = subst (λ (o : Option FileRecord). IsSome o) (sym
-    (ap (λ (q : Typed). find nat_cmp c.args.file q.files) c.in_ok-write_blocks.ensures.ok.rest)) c.requires.there in
-    let set = on_ok_there c.set_file.result (c.set_file.ensures.set.in_place there) c.set_file.ensures.ok in
-    let first = c.write_blocks.ensures.leaves in
-    let second = c.set_file.ensures.leaves in
-    sound_written t b s c.args.file c.args.at grown set c.set_file.ensures.set.image c.requires.sound c.requires.running
-    (second.clusters ∙ first.clusters) second.clusters c.in_ok-write_blocks.ensures.rules c.set_file.ensures.states
-    (λ runs. sym c.set_file.ensures.set.running ∙ runs) c.write_blocks.ensures.loses_none
+pub returns-in_err-edges-clause-spends : goal.returns-in_err-edges-clause-spends
+returns-in_err-edges-clause-spends g c =
+    spends_none (touched c.args.at (length c.args.bytes.now)) 0 c.args.tables.now c.read_edges.new.tables
+    c.read_edges.ensures.now

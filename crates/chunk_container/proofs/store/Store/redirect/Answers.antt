@@ -3,7 +3,7 @@ use Rattle.std.specs.Ordering.{nat_cmp}
 use Rattle.std.specs.FinMap.{find}
 use Rattle.table_records.specs.Orders.{some_same}
 use Rattle.table_records.specs.declared.chunk_records.Row.{Row}
-use Rattle.volume_tables.specs.Tables.{tables_now, clusters_in}
+use Rattle.volume_tables.specs.Tables.{tables_now, disk_of, clusters_in}
 use Rattle.volume_inside.specs.ChunkChanges.{IsRedirected}
 use Rattle.volume_inside.proofs.BaseGrown.{redirect_stays}
 use Rattle.chunk_container.specs.Bases.{bases_now}
@@ -13,6 +13,7 @@ use Rattle.chunk_container.specs.Stores.{tables_of}
 use Rattle.chunk_container.proofs.Calls.{call_done}
 use Rattle.chunk_container.proofs.Finds.{some_and}
 use Rattle.chunk_container.proofs.Redirected.{rows_in_order, of_found, redirect_then}
+use Rattle.chunk_container.proofs.RowMaps.{maps_redirected}
 use Rattle.chunk_container.proofs.RowRules.{id_fits, rules_redirected}
 use Rattle.chunk_container.proofs.store.Store.redirect.Goals as goal
 
@@ -50,6 +51,22 @@ returns-clause-call g c row found =
       running = put.running;
     })
 
+pub returns-clause-sound : goal.returns-clause-sound
+returns-clause-sound g c =
+    let t = tables_of c.args.self.now in
+    let p = c.put_redirect.new.tables in
+    let id = c.args.id in
+    let to = c.args.to in
+    let row = c.unwrap-row.result in
+    let rows = (tables_now t).chunks.rows in
+    let is : c.get_row.result ≡ Some row = search rules in
+    let found : find nat_cmp id rows ≡ Some row = sym c.get_row.ensures ∙ is in
+    let may = of_found (IsRedirectable rows id to) (find nat_cmp id rows) row c.requires.may found in
+    let call : IsRowCall ⊥ (redirected id to row) redirect_needs redirect_bytes t p (Ok tt) =
+    returns-clause-call g c row found in
+    call.sound (λ told. maps_redirected (clusters_in t) (tables_now t) id to row c.requires.sound.rules may
+    (rows_in_order t) (disk_of t).image (c.requires.sound.maps told))
+
 pub returns-clause-alike : goal.returns-clause-alike
 returns-clause-alike g c row target found at alike =
     let t = tables_of c.args.self.now in
@@ -67,7 +84,7 @@ returns-clause-alike g c row target found at alike =
     (subst (λ (x : Row). tables_now p ≡ redirected id to x (tables_now m)) same put.tables) may at alike
 
 pub returns-clause-view : goal.returns-clause-view
-returns-clause-view g c row target found at alike =
+returns-clause-view g c row target found at alike told =
     let t = tables_of c.args.self.now in
     let p = c.put_redirect.new.tables in
     let id = c.args.id in
@@ -76,4 +93,4 @@ returns-clause-view g c row target found at alike =
     returns-clause-call g c row found in
     let moved : IsRedirected (bases_now t) (bases_now p) id to row target =
     returns-clause-alike g c row target found at alike in
-    call.seen (λ x there. redirect_stays (bases_now t) (bases_now p) id to row target moved x)
+    call.seen told (λ x there. redirect_stays (bases_now t) (bases_now p) id to row target moved x)

@@ -4,43 +4,60 @@ use Rattle.plain_volume.specs.declared.call.Call.TheVariants.{Delete}
 use Rattle.volume_tables.specs.Tables.{disk_of, view_now}
 use Rattle.volume_tables.specs.Wants.{wanting}
 use Rattle.volume_files.specs.Needs.{delete_needs}
+use Rattle.volume_core.specs.Volumes.{tables_of}
 use Rattle.volume_core.proofs.Causes.{failed_rose}
 use Rattle.volume_core.proofs.Wanting.{delete_may, delete_not_failed}
 use Rattle.volume_core.proofs.Adding.{changes_add}
+use Rattle.volume_core.proofs.Lent.{lent_sound, lent_spends, lent_endures, lent_rose, lent_moves, lent_replied}
 use Rattle.volume_core.proofs.Moving.{changes_move}
 use Rattle.volume_core.proofs.Unlost.{delete_undamaged}
 use Rattle.volume_core.proofs.Waiting.{delete_waits}
-use Rattle.volume_core.proofs.Told.{want_told, replied_told}
+use Rattle.volume_core.proofs.Told.{want_told}
 use Rattle.volume_core.proofs.volume.Volume.delete.Goals as goal
 
 pub returns-clause-want : goal.returns-clause-want
 returns-clause-want g c =
-    want_told c.args.self.now (Delete c.args.name.now)
-    (delete_may c.args.self.now.tables c.args.name.now)
+    let t = tables_of c.args.self.now in
+    let name = c.args.name.now in
+    want_told t c.args.self.now.sound (Delete name) (delete_may t name)
 
 pub returns-clause-failed : goal.returns-clause-failed
 returns-clause-failed g c =
-    let t = c.args.self.now.tables in
-    failed_rose (view_now t) (Delete c.args.name.now) (wanting t (delete_needs c.args.name.now))
-    (delete_not_failed t c.args.name.now) (disk_of t).faults (disk_of c.delete.new.tables).faults c.delete.result
-    c.delete.ensures.reply
+    let a = c.tables_mut.result.now in
+    let u = c.delete.new.tables in
+    let name = c.args.name.now in
+    lent_rose (tables_of c.args.self.now) a u c.tables_mut.ensures.tables _
+    (failed_rose (view_now a) (Delete name) (wanting a (delete_needs name))
+    (delete_not_failed a name) (disk_of a).faults (disk_of u).faults c.delete.result
+    c.delete.ensures.reply)
 
 pub returns-clause-adds : goal.returns-clause-adds
 returns-clause-adds g c =
+    let t = tables_of c.args.self.now in
+    let a = c.tables_mut.result.now in
+    let u = c.delete.new.tables in
+    let same = c.tables_mut.ensures.tables in
     let s = c.delete.ensures in
-    changes_add _ _ (Delete c.args.name.now) 0 (omega arith) refl s.spends s.endures
+    let name = c.args.name.now in
+    changes_add _ _ (Delete name) 0 (omega arith) refl (lent_spends t a u same 0 0 s.spends)
+    (lent_endures t a u same s.endures)
 
 pub returns-clause-reply : goal.returns-clause-reply
 returns-clause-reply g c =
-    replied_told c.args.self.now (Delete c.args.name.now) (disk_of c.args.self.now.tables).faults
-    (disk_of c.delete.new.tables).faults (done_reply c.delete.result) c.delete.ensures.reply
+    let name = c.args.name.now in
+    lent_replied (tables_of c.args.self.now) c.tables_mut.result.now c.delete.new.tables c.tables_mut.ensures.tables
+    c.args.self.now.sound (Delete name) (done_reply c.delete.result) c.delete.ensures.reply
 
 pub returns-clause-moves : goal.returns-clause-moves
 returns-clause-moves g c =
+    let t = tables_of c.args.self.now in
+    let a = c.tables_mut.result.now in
+    let u = c.delete.new.tables in
+    let same = c.tables_mut.ensures.tables in
     let s = c.delete.ensures in
-    let t = c.args.self.now.tables in
     let name = c.args.name.now in
-    changes_move t c.delete.new.tables (Delete name) c.delete.result refl s.inside s.err_inside
-    (delete_waits c.args.self.now c.delete.new.tables c.delete.result name s.pending)
-    (λ place. delete_undamaged (view_now t) name (disk_of t).faults (disk_of c.delete.new.tables).faults c.delete.result
-    place (wanting t (delete_needs name)) (delete_may t name) (inl s.reply)) s.endures s.stops s.spares
+    lent_moves t a u same (Delete name) (done_reply c.delete.result)
+    (changes_move a u (Delete name) c.delete.result refl s.inside s.err_inside
+    (delete_waits a (lent_sound t a u same c.args.self.now.sound) u c.delete.result name s.pending)
+    (λ place is. absurd (delete_undamaged (view_now a) name (disk_of a).faults (disk_of u).faults c.delete.result
+    place (wanting a (delete_needs name)) (delete_may a name) (inl s.reply) is)) s.endures s.stops s.spares)

@@ -12,7 +12,7 @@ use Rattle.volume_tables.specs.Tables.{disk_of, area_of, tables_now, with_ends}
 use Rattle.volume_tables.proofs.Held.{held_released, held_same}
 use Rattle.volume_tables.proofs.Freed.{both_ok}
 use Rattle.volume_tables.proofs.Staged.{handed_back, handed_err}
-use Rattle.volume_tables.proofs.Crashes.{commit_moments, commit_kept, commit_inside, commit_tables, commit_stored, committed}
+use Rattle.volume_tables.proofs.Crashes.{commit_moments, commit_kept, commit_frame, commit_inside, commit_tables, commit_stored, committed}
 use Rattle.volume_tables.proofs.Committing.{now_volume, worn_back}
 use Rattle.volume_tables.proofs.Pended.{log_committed, log_worn}
 use Rattle.volume_tables.proofs.Staged.{commit_handed}
@@ -47,12 +47,12 @@ returns-in-Ok g c =
     let tables = commit_tables t l s.quiet s.tables (log_now new) c.stage_ends.new.ends r.now s.ends in
     record {
       moments = λ stored w is kept.
-          commit_moments t l s.quiet s.tables stored w (log_state new) volume (c.requires.maps stored is) is kept (λ m log. r.moments m log);
+          commit_moments t l s.quiet s.tables stored w (log_state new) volume (c.requires.maps is.log.stands.told) is kept (λ m log. r.moments m log);
       kept = λ stored w is kept.
           handed_back (Kept (area_of t) (log_state new) (view_at (tables_now t) (disk_of t).image)) c.commit.result _
           c.in-Ok.ensures
           (on_ok_weaker c.commit.result
-          (λ settled. commit_kept t l s.quiet s.tables stored w (log_state new) volume (c.requires.maps stored is) is kept settled)
+          (λ settled. commit_kept t l s.quiet s.tables stored w (log_state new) volume (c.requires.maps is.log.stands.told) is kept settled)
           (r.settled is.map (s.quiet.log is.map is.log)));
       tables = λ stored is.
           committed t _ (log_now l)
@@ -62,6 +62,7 @@ returns-in-Ok g c =
       inside =
           commit_inside t l s.quiet s.tables (with_ends c.stage_ends.new.ends (typed_of (log_now new)))
           (log_state new).image tables r.outside;
+      frame = commit_frame t l s.quiet s.tables (log_state new).image r.outside;
       clusters = refl;
       checkpoint = search rules;
       same = search rules;
@@ -81,6 +82,7 @@ returns-in-Ok g c =
       idle_ok = λ none runs. refl;
       runs = search rules;
       still_runs = λ worn. absurd (cc);
+      tells = r.tells ∙ ap (λ (x : g.row.D.Denot). (g.D.Disk.state x).tells) s.quiet.disk;
       moment = search rules;
       later = search rules;
     }
@@ -96,7 +98,7 @@ returns-in-Err g c =
     let tables = commit_tables t l s.quiet s.tables (log_now new) c.stage_ends.new.ends r.now s.ends in
     record {
       moments = λ stored w is kept.
-          commit_moments t l s.quiet s.tables stored w (log_state new) volume (c.requires.maps stored is) is kept (λ m log. r.moments m log);
+          commit_moments t l s.quiet s.tables stored w (log_state new) volume (c.requires.maps is.log.stands.told) is kept (λ m log. r.moments m log);
       kept = λ stored w is kept. tt;
       tables = λ stored is. tt;
       still_stored = λ stored is worn.
@@ -106,6 +108,7 @@ returns-in-Err g c =
       inside =
           commit_inside t l s.quiet s.tables (with_ends c.stage_ends.new.ends (typed_of (log_now new)))
           (log_state new).image tables r.outside;
+      frame = commit_frame t l s.quiet s.tables (log_state new).image r.outside;
       clusters = refl;
       checkpoint = search rules;
       same = search rules;
@@ -126,6 +129,7 @@ returns-in-Err g c =
       idle_ok = search rules;
       runs = tt;
       still_runs = search rules;
+      tells = r.tells ∙ ap (λ (x : g.row.D.Denot). (g.D.Disk.state x).tells) s.quiet.disk;
       moment = search rules;
       later = search rules;
     }

@@ -38,6 +38,7 @@ returns g c =
           ));
       now = s.now;
       inside = s.inside;
+      frame = s.frame;
       clusters = s.clusters;
       checkpoint = s.checkpoint;
       same = s.same;
@@ -61,6 +62,7 @@ returns g c =
       failed = s.failed;
       runs = s.runs;
       stops = stopped_by t u r s.refused (λ f. (s.failed f).1) s.runs s.still_runs;
+      tells = s.tells;
       moment = s.moment;
       later = s.later;
     }

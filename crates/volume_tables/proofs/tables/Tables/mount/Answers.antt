@@ -1,5 +1,5 @@
-use Rattle.std.proofs.Common.{◌∙◌}
-use Rattle.std.specs.Prelude.{Ok}
+use Rattle.std.proofs.Common.{◌∙◌, sym}
+use Rattle.std.specs.Prelude.{Ok, IsTrue}
 use Rattle.meta_log.specs.Opened.{IsOnlyRead}
 use Rattle.row_reading.proofs.Readable.{readable}
 use Rattle.volume_inside.specs.InsideOf.{InsideOf}
@@ -10,11 +10,12 @@ use Rattle.volume_tables.specs.After.{only_then}
 use Rattle.volume_tables.specs.Mount.{read_meta, IsMapsFault, IsMountFault}
 use Rattle.volume_tables.specs.Mounted.{IsOpened, AreTablesOf}
 use Rattle.volume_tables.specs.Reads.{ReadsOnly}
-use Rattle.volume_tables.specs.Tables.{tables_now, inside_now, view_now, area_of, disk_of, IsTables, IsToldBy}
+use Rattle.volume_tables.specs.Tables.{tables_now, inside_now, view_now, area_of, disk_of, IsTables, IsToldBy, HasMaps}
 use Rattle.volume_tables.specs.declared.tables.Tables.{Tables}
 use Rattle.volume_tables.proofs.Mounts.{mounted_tables, mounted_whole, mounted_goes_on, mounted_kept, mounted_found}
 use Rattle.volume_tables.proofs.Mounts.{read_on, whole_on, goes_still_on, kept_on, opened_on, inner_refused, maps_refused}
 use Rattle.volume_tables.proofs.Mounts.{ok_then, ok_known, err_then}
+use Rattle.volume_tables.proofs.Mapped.{maps_read}
 use Rattle.volume_tables.proofs.tables.Tables.mount.Goals as goal
 
 pub with_maps-requires : goal.with_maps-requires
@@ -100,6 +101,21 @@ returns-in-Ok-open_tables-clause-opened g c =
     ok_then c.with_maps.result (λ (u : Tables g.row.D.Denot g.D.Disk). ReadsOnly t u)
     (λ (u : Tables g.row.D.Denot g.D.Disk). IsOpened u)
     (λ u reads. opened_on t u reads c.in-Ok-open_tables.ensures.opened) c.with_maps.ensures.reads
+
+pub returns-in-Ok-open_tables-clause-maps : goal.returns-in-Ok-open_tables-clause-maps
+returns-in-Ok-open_tables-clause-maps g c =
+    let s₀ = g.D.Disk.state c.args.disk in
+    let s₁ = g.D.Disk.state c.read_front.new.disk in
+    let t = c.in-Ok-open_tables.tables in
+    let first = c.in-Ok.ensures.read in
+    let o = c.in-Ok-open_tables.ensures in
+    ok_known c.with_maps.result (λ (u : Tables g.row.D.Denot g.D.Disk). ReadsOnly t u)
+    (λ (u : Tables g.row.D.Denot g.D.Disk). HasMaps u)
+    (λ u ok reads told.
+    let there : IsTrue (disk_of t).tells = sym reads.leaves.tells ∙ told in
+    let before : IsTrue s₁.tells = sym o.read.keeps.tells ∙ there in
+    let is = mounted_tables t c.in-Ok.clusters s₀ s₁ first o.read (o.spells before) o.clusters o.opened.space in
+    maps_read t u reads (λ known. c.with_maps.ensures.maps (tables_now t, is) ok) told) c.with_maps.ensures.reads
 
 pub returns-in-Ok-open_tables-clause-refused : goal.returns-in-Ok-open_tables-clause-refused
 returns-in-Ok-open_tables-clause-refused g c =

@@ -47,6 +47,7 @@ returns-clause-reads g c =
             (Shows (area_of t) w) s.untouched kept;
         same = s.same;
         later = s.later;
+        tells = s.untouched.tells;
         place = s.place.next;
         epoch = s.place.epoch;
         ends = refl;

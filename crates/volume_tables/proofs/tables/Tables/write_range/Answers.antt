@@ -85,6 +85,7 @@ returns-clause-writes g c =
                 c.requires.behind c.requires.within stored w (log_state c.write_data.new.self) s.torn is kept;
             same = s.same;
             later = s.later;
+            tells = s.torn.tells;
             place = s.place.next;
             epoch = s.place.epoch;
             ends = refl;

@@ -59,6 +59,7 @@ returns-clause-writes g c =
                 c.requires.whole s.torn) is kept;
             same = s.same;
             later = s.later;
+            tells = s.torn.tells;
             place = s.place.next;
             epoch = s.place.epoch;
             ends = refl;

@@ -4,7 +4,7 @@ use Rattle.std.proofs.lemmas.Result.{on_ok_weaker}
 use Rattle.vdisk.specs.Ranges.{part}
 use Rattle.volume_inside.specs.Inside.{block_of}
 use Rattle.volume_tables.specs.Tables.{disk_of}
-use Rattle.volume_files.proofs.block.read_extent.Goals as goal
+use Rattle.volume_files.proofs.edges.read_extent.Goals as goal
 
 pub returns-clause-bytes : goal.returns-clause-bytes
 returns-clause-bytes g c stored is =

@@ -7,7 +7,7 @@ use Rattle.volume_inside.specs.Inside.{block_of}
 use Rattle.volume_tables.specs.Tables.{disk_of}
 use Rattle.volume_files.specs.Writing.{named_bytes}
 use Rattle.volume_files.proofs.Overwritten.{padded}
-use Rattle.volume_files.proofs.block.read_block.Goals as goal
+use Rattle.volume_files.proofs.edges.read_block.Goals as goal
 
 pub returns-in-Some-clause-bytes : goal.returns-in-Some-clause-bytes
 returns-in-Some-clause-bytes g c stored is =
